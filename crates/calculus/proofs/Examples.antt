@@ -14,7 +14,7 @@ use Rattle.calculus.specs.NewNumbers.{smallest}
 use Rattle.calculus.specs.Steps.{step}
 use Rattle.calculus.specs.Typing.{typeOf, equal}
 use Rattle.calculus.specs.Answers.{stepAnswer, loadAnswer, checkAnswer, scriptOf, holdsLongType}
-use Rattle.calculus.specs.Examples.{table, holds, allHold, sameWords}
+use Rattle.calculus.specs.Examples.{table, holds, allHold, sameWords, lookRight}
 
 pub examples-hold : T (allHold table)
 unfolding allHold holds sameWords stepAnswer loadAnswer checkAnswer scriptOf expressionOf holdsLongType
@@ -22,3 +22,10 @@ unfolding allHold holds sameWords stepAnswer loadAnswer checkAnswer scriptOf exp
     get put remove overlaid written absorbed place substituted named namedInStore namedInTask keys
     takenLocations takenRevisions smallest step typeOf equal
 examples-hold = tt
+
+-- and so does every row that rules out an error which looks right
+pub errors-ruled-out : T (allHold lookRight)
+unfolding allHold holds sameWords stepAnswer stateOf readEntries readExpression readType image taskWords words
+    closedIn member get put remove overlaid absorbed place named namedInStore namedInTask
+    takenRevisions smallest step
+errors-ruled-out = tt

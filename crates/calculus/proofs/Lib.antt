@@ -4,8 +4,7 @@ pub mod Maps
 pub mod Reading
 pub mod Places
 pub mod Members
-pub mod Cells
-pub mod Entries
+pub mod Stores
 pub mod Images
 pub mod Rules
 pub mod TypingRules

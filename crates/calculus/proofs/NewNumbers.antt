@@ -20,10 +20,10 @@ pub record Smallest (n k : ℕ) (u : List ℕ) (j : ℕ) : Type 0 where
   pub least : (i : ℕ) → k ≤ i → i < j → member i u ≡ true
 
 -- what is found is the smallest
-pub first-smallest : (n k : ℕ) (u : List ℕ) {j : ℕ} → smallest n k u ≡ some j → Smallest n k u j
+pub smallest-is : (n k : ℕ) (u : List ℕ) {j : ℕ} → smallest n k u ≡ some j → Smallest n k u j
 unfolding smallest
-first-smallest zero k u h = none≢some h
-first-smallest (suc n) k u {j} h = go (member k u) refl h (λ x. first-smallest n (suc k) u x)
+smallest-is zero k u h = none≢some h
+smallest-is (suc n) k u {j} h = go (member k u) refl h (λ x. smallest-is n (suc k) u x)
   where
     low : member k u ≡ true → Smallest n (suc k) u j → (i : ℕ) → Dec (i ≡ k) → k ≤ i → i < j → member i u ≡ true
     low p s i (yes e) a b = ap (λ i. member i u) e ∙ p
@@ -40,10 +40,10 @@ first-smallest (suc n) k u {j} h = go (member k u) refl h (λ x. first-smallest 
         record { low = omega arith; high = omega arith; free = along (λ j. member j u ≡ false) e p; least = λ i x y. absurd (omega arith) }
 
 -- where none is found all are taken
-pub first-none : (n k : ℕ) (u : List ℕ) → smallest n k u ≡ none → (i : ℕ) → k ≤ i → i < n + k → member i u ≡ true
+pub smallest-none : (n k : ℕ) (u : List ℕ) → smallest n k u ≡ none → (i : ℕ) → k ≤ i → i < n + k → member i u ≡ true
 unfolding smallest
-first-none zero k u h i a b = absurd (omega arith)
-first-none (suc n) k u h i a b = go (member k u) refl h (λ x. first-none n (suc k) u x i) (ℕ-discrete i k)
+smallest-none zero k u h i a b = absurd (omega arith)
+smallest-none (suc n) k u h i a b = go (member k u) refl h (λ x. smallest-none n (suc k) u x i) (ℕ-discrete i k)
   where
     go : (c : Bool) → member k u ≡ c → _≡_ {A = Option ℕ} (elim c [ true ↦ smallest n (suc k) u | false ↦ some k ]) none → (smallest n (suc k) u ≡ none → suc k ≤ i → i < n + suc k → member i u ≡ true) → Dec (i ≡ k) → member i u ≡ true
     go true p q ih (yes e) = ap (λ i. member i u) e ∙ p
@@ -60,18 +60,18 @@ smallest-unique n k u i j a b = go (tri i j)
     go (above l) = true≢false (sym (a .least j (b .low) l) ∙ b .free)
 
 -- the smallest is found
-pub smallest-first : (n k : ℕ) (u : List ℕ) (j : ℕ) → Smallest n k u j → smallest n k u ≡ some j
-smallest-first n k u j s = go (smallest n k u) refl
+pub is-smallest : (n k : ℕ) (u : List ℕ) (j : ℕ) → Smallest n k u j → smallest n k u ≡ some j
+is-smallest n k u j s = go (smallest n k u) refl
   where
     go : (o : Option ℕ) → smallest n k u ≡ o → smallest n k u ≡ some j
-    go none p = true≢false (sym (first-none n k u p j (s .low) (s .high)) ∙ s .free)
-    go (some i) p = p ∙ ap some (smallest-unique n k u i j (first-smallest n k u p) s)
+    go none p = true≢false (sym (smallest-none n k u p j (s .low) (s .high)) ∙ s .free)
+    go (some i) p = p ∙ ap some (smallest-unique n k u i j (smallest-is n k u p) s)
 
 -- lists with the same members give the same
-pub first-same : (n k : ℕ) (u w : List ℕ) → ((i : ℕ) → member i u ≡ member i w) → smallest n k u ≡ smallest n k w
+pub smallest-same : (n k : ℕ) (u w : List ℕ) → ((i : ℕ) → member i u ≡ member i w) → smallest n k u ≡ smallest n k w
 unfolding smallest
-first-same zero k u w h = refl
-first-same (suc n) k u w h = go (member k u) (member k w) (h k) (first-same n (suc k) u w h)
+smallest-same zero k u w h = refl
+smallest-same (suc n) k u w h = go (member k u) (member k w) (h k) (smallest-same n (suc k) u w h)
   where
     go : (b c : Bool) → b ≡ c → smallest n (suc k) u ≡ smallest n (suc k) w → _≡_ {A = Option ℕ} (elim b [ true ↦ smallest n (suc k) u | false ↦ some k ]) (elim c [ true ↦ smallest n (suc k) w | false ↦ some k ])
     go true true p ih = ih

@@ -1,6 +1,6 @@
 -- The search for the place of work finds the one decomposition that there is.
 use Prim.Native.Nat.{ℕ}
-use mathlib.Core.Bool.{true, false, Bool, cond}
+use mathlib.Core.Bool.{true, false, cond, Bool}
 use mathlib.Core.List.{[], _∷_}
 use mathlib.Core.Option.{none, Option, some}
 use mathlib.Core.Path.{subst as along, _≡_, refl, ap, _∙_, sym, ap₂}
@@ -23,68 +23,68 @@ use Rattle.calculus.proofs.Options.{none≢some, T→true, some-inj, �
 pub true≢false : {C : Type 0} → true ≡ false → C
 true≢false e = absurd (let z : _≡_ {A = ℕ} 0 1 = cc in omega arith)
 
-asVal-none : (e : Expression) → value e ≡ false → asValue e ≡ none
-asVal-none e h = rw h refl
+asValue-none : (e : Expression) → value e ≡ false → asValue e ≡ none
+asValue-none e h = rw h refl
 
-asNam-none : (k : Leaf) (e : Expression) → value e ≡ false → asLeaf k e ≡ none
-asNam-none k (constant c) h = refl
-asNam-none k (leaf j n) h = true≢false h
-asNam-none k (lambda x A e) h = refl
-asNam-none k (one o e) h = refl
-asNam-none k (two o a b) h = refl
-asNam-none k (if a b c) h = refl
+asLeaf-none : (k : Leaf) (e : Expression) → value e ≡ false → asLeaf k e ≡ none
+asLeaf-none k (constant c) h = refl
+asLeaf-none k (leaf j n) h = true≢false h
+asLeaf-none k (lambda x A e) h = refl
+asLeaf-none k (one o e) h = refl
+asLeaf-none k (two o a b) h = refl
+asLeaf-none k (if a b c) h = refl
 
-asLam-none : (e : Expression) → value e ≡ false → asLambda e ≡ none
-asLam-none (constant c) h = refl
-asLam-none (leaf j n) h = refl
-asLam-none (lambda x A e) h = true≢false h
-asLam-none (one o e) h = refl
-asLam-none (two o a b) h = refl
-asLam-none (if a b c) h = refl
+asLambda-none : (e : Expression) → value e ≡ false → asLambda e ≡ none
+asLambda-none (constant c) h = refl
+asLambda-none (leaf j n) h = refl
+asLambda-none (lambda x A e) h = true≢false h
+asLambda-none (one o e) h = refl
+asLambda-none (two o a b) h = refl
+asLambda-none (if a b c) h = refl
 
-asBool-none : (e : Expression) → value e ≡ false → asTruth e ≡ none
-asBool-none (constant c) h = true≢false h
-asBool-none (leaf j n) h = refl
-asBool-none (lambda x A e) h = refl
-asBool-none (one o e) h = refl
-asBool-none (two o a b) h = refl
-asBool-none (if a b c) h = refl
+asTruth-none : (e : Expression) → value e ≡ false → asTruth e ≡ none
+asTruth-none (constant c) h = true≢false h
+asTruth-none (leaf j n) h = refl
+asTruth-none (lambda x A e) h = refl
+asTruth-none (one o e) h = refl
+asTruth-none (two o a b) h = refl
+asTruth-none (if a b c) h = refl
 
 ▸-none : {A B : Type 0} (m : Option A) → _≡_ {A = Option B} (m ▸ λ a. none) none
 ▸-none none = refl
 ▸-none (some a) = refl
 
-pub redex-nonval : (e : Expression) {R : Redex} → redex e ≡ some R → value e ≡ false
-redex-nonval (constant c) h = none≢some h
-redex-nonval (leaf j n) h = none≢some h
-redex-nonval (lambda x A e) h = none≢some h
-redex-nonval (one o e) h = refl
-redex-nonval (two o a b) h = refl
-redex-nonval (if a b c) h = refl
+pub redex-not-value : (e : Expression) {R : Redex} → redex e ≡ some R → value e ≡ false
+redex-not-value (constant c) h = none≢some h
+redex-not-value (leaf j n) h = none≢some h
+redex-not-value (lambda x A e) h = none≢some h
+redex-not-value (one o e) h = refl
+redex-not-value (two o a b) h = refl
+redex-not-value (if a b c) h = refl
 
-fill-nonval : (f : Frame) (e : Expression) → value (fill f e) ≡ false
-fill-nonval (only o) e = refl
-fill-nonval (firstOf o b) e = refl
-fill-nonval (secondOf o a) e = refl
-fill-nonval (condition b c) e = refl
+fill-not-value : (f : Frame) (e : Expression) → value (fill f e) ≡ false
+fill-not-value (only o) e = refl
+fill-not-value (firstOf o b) e = refl
+fill-not-value (secondOf o a) e = refl
+fill-not-value (condition b c) e = refl
 
-pub At-nonval : {e : Expression} {E : Context} {R : Redex} → Decomposed e E R → value e ≡ false
-At-nonval (here {e} h) = redex-nonval e h
-At-nonval (within f {e} o a) = fill-nonval f e
+pub decomposed-not-value : {e : Expression} {E : Context} {R : Redex} → Decomposed e E R → value e ≡ false
+decomposed-not-value (here {e} h) = redex-not-value e h
+decomposed-not-value (within f {e} o a) = fill-not-value f e
 
 -- a frame that is open over a non-value is no redex
 open-none : (f : Frame) (e : Expression) → T (enters f) → value e ≡ false → redex (fill f e) ≡ none
 open-none (only ref) e o h = rw h refl
-open-none (only read) e o h = rw (asNam-none location e h) refl
+open-none (only read) e o h = rw (asLeaf-none location e h) refl
 open-none (only fork) e o h = absurd o
-open-none (only join) e o h = rw (asNam-none revision e h) refl
-open-none (firstOf apply b) e o h = rw (asLam-none e h) refl
-open-none (firstOf assign b) e o h = rw (asNam-none location e h) refl
-open-none (firstOf (arithmetic c) b) e o h = rw (asNam-none number e h) refl
+open-none (only join) e o h = rw (asLeaf-none revision e h) refl
+open-none (firstOf apply b) e o h = rw (asLambda-none e h) refl
+open-none (firstOf assign b) e o h = rw (asLeaf-none location e h) refl
+open-none (firstOf (arithmetic c) b) e o h = rw (asLeaf-none number e h) refl
 open-none (secondOf apply a) e o h = rw h (▸-none (asLambda a))
 open-none (secondOf assign a) e o h = rw h (▸-none (asLeaf location a))
-open-none (secondOf (arithmetic c) a) e o h = rw (asNam-none number e h) (▸-none (asLeaf number a))
-open-none (condition b c) e o h = rw (asBool-none e h) refl
+open-none (secondOf (arithmetic c) a) e o h = rw (asLeaf-none number e h) (▸-none (asLeaf number a))
+open-none (condition b c) e o h = rw (asTruth-none e h) refl
 
 present-val : (k : Leaf) (e : Expression) → T (present (asLeaf k e)) → value e ≡ true
 present-val k (constant c) t = refl
@@ -115,9 +115,9 @@ place-here (one o e) h = rw h refl
 place-here (two o a b) h = rw h refl
 place-here (if a b c) h = rw h refl
 
-pub At→place : {e : Expression} {E : Context} {R : Redex} → Decomposed e E R → place e ≡ worksAt E R
-At→place (here {e} h) = place-here e h
-At→place (within f {e} t a) = place-fill f e t (At-nonval a) ∙ ap (under f) (At→place a)
+pub decomposed-place : {e : Expression} {E : Context} {R : Redex} → Decomposed e E R → place e ≡ worksAt E R
+decomposed-place (here {e} h) = place-here e h
+decomposed-place (within f {e} t a) = place-fill f e t (decomposed-not-value a) ∙ ap (under f) (decomposed-place a)
 
 -- the other way
 under-work : (f : Frame) (p : Place) {E : Context} {R : Redex} → under f p ≡ worksAt E R → (F : Context) × (p ≡ worksAt F R) × (f ∷ F ≡ E)
@@ -148,18 +148,18 @@ opens-one read e h = tt
 opens-one fork e h = none≢some (sym h)
 opens-one join e h = tt
 
-pub place→At : (e : Expression) (E : Context) (R : Redex) → place e ≡ worksAt E R → Decomposed e E R
+pub place-decomposed : (e : Expression) (E : Context) (R : Redex) → place e ≡ worksAt E R → Decomposed e E R
 unfolding place
-place→At (constant c) E R h = value≢work h
-place→At (leaf k n) E R h = value≢work h
-place→At (lambda x A e) E R h = value≢work h
-place→At (one o e) E R h = go (redexOne o e) refl (value e) h (λ F. place→At e F R)
+place-decomposed (constant c) E R h = value≢work h
+place-decomposed (leaf k n) E R h = value≢work h
+place-decomposed (lambda x A e) E R h = value≢work h
+place-decomposed (one o e) E R h = go (redexOne o e) refl (value e) h (λ F. place-decomposed e F R)
   where
     go : (m : Option Redex) → redexOne o e ≡ m → (b : Bool) → orElsewhere m (cond b (stuckAt [] (one o e)) (under (only o) (place e))) ≡ worksAt E R → ((F : Context) → place e ≡ worksAt F R → Decomposed e F R) → Decomposed (one o e) E R
     go (some Q) p b h ih = work-here p h
     go none p true h ih = stuck≢work h
     go none p false h ih = enter (only o) e (opens-one o e p) ih h
-place→At (two o a b) E R h = go (redexTwo o a b) refl (value a) (value b) (entersSecond o a) refl h (λ F. place→At a F R) (λ F. place→At b F R)
+place-decomposed (two o a b) E R h = go (redexTwo o a b) refl (value a) (value b) (entersSecond o a) refl h (λ F. place-decomposed a F R) (λ F. place-decomposed b F R)
   where
     go : (m : Option Redex) → redexTwo o a b ≡ m → (u v w : Bool) → entersSecond o a ≡ w
         → orElsewhere m (cond u (cond v (stuckAt [] (two o a b)) (cond w (under (secondOf o a) (place b)) (stuckAt [] (two o a b)))) (under (firstOf o b) (place a))) ≡ worksAt E R
@@ -169,7 +169,7 @@ place→At (two o a b) E R h = go (redexTwo o a b) refl (value a) (value b) (ent
     go none p true false true q h ia ib = enter (secondOf o a) b (rw q tt) ib h
     go none p true false false q h ia ib = stuck≢work h
     go none p false v w q h ia ib = enter (firstOf o b) a tt ia h
-place→At (if a b c) E R h = go (redexIf a b c) refl (value a) h (λ F. place→At a F R)
+place-decomposed (if a b c) E R h = go (redexIf a b c) refl (value a) h (λ F. place-decomposed a F R)
   where
     go : (m : Option Redex) → redexIf a b c ≡ m → (u : Bool) → orElsewhere m (cond u (stuckAt [] (if a b c)) (under (condition b c) (place a))) ≡ worksAt E R → ((F : Context) → place a ≡ worksAt F R → Decomposed a F R) → Decomposed (if a b c) E R
     go (some Q) p u h ih = work-here p h
@@ -177,93 +177,93 @@ place→At (if a b c) E R h = go (redexIf a b c) refl (value a) h (λ F. place�
     go none p false h ih = enter (condition b c) a tt ih h
 
 -- a redex is what it was made from
-sameN-eq : (k j : Leaf) → sameLeaf k j ≡ true → k ≡ j
-sameN-eq number number h = refl
-sameN-eq number variable h = true≢false (sym h)
-sameN-eq number location h = true≢false (sym h)
-sameN-eq number revision h = true≢false (sym h)
-sameN-eq variable number h = true≢false (sym h)
-sameN-eq variable variable h = refl
-sameN-eq variable location h = true≢false (sym h)
-sameN-eq variable revision h = true≢false (sym h)
-sameN-eq location number h = true≢false (sym h)
-sameN-eq location variable h = true≢false (sym h)
-sameN-eq location location h = refl
-sameN-eq location revision h = true≢false (sym h)
-sameN-eq revision number h = true≢false (sym h)
-sameN-eq revision variable h = true≢false (sym h)
-sameN-eq revision location h = true≢false (sym h)
-sameN-eq revision revision h = refl
+sameLeaf-is : (k j : Leaf) → sameLeaf k j ≡ true → k ≡ j
+sameLeaf-is number number h = refl
+sameLeaf-is number variable h = true≢false (sym h)
+sameLeaf-is number location h = true≢false (sym h)
+sameLeaf-is number revision h = true≢false (sym h)
+sameLeaf-is variable number h = true≢false (sym h)
+sameLeaf-is variable variable h = refl
+sameLeaf-is variable location h = true≢false (sym h)
+sameLeaf-is variable revision h = true≢false (sym h)
+sameLeaf-is location number h = true≢false (sym h)
+sameLeaf-is location variable h = true≢false (sym h)
+sameLeaf-is location location h = refl
+sameLeaf-is location revision h = true≢false (sym h)
+sameLeaf-is revision number h = true≢false (sym h)
+sameLeaf-is revision variable h = true≢false (sym h)
+sameLeaf-is revision location h = true≢false (sym h)
+sameLeaf-is revision revision h = refl
 
-pub asNam-some : (k : Leaf) (e : Expression) {n : ℕ} → asLeaf k e ≡ some n → leaf k n ≡ e
-asNam-some k (constant c) h = none≢some h
-asNam-some k (leaf j m) {n} h = go (sameLeaf k j) refl h
+pub asLeaf-some : (k : Leaf) (e : Expression) {n : ℕ} → asLeaf k e ≡ some n → leaf k n ≡ e
+asLeaf-some k (constant c) h = none≢some h
+asLeaf-some k (leaf j m) {n} h = go (sameLeaf k j) refl h
   where
     go : (b : Bool) → sameLeaf k j ≡ b → cond b (some m) none ≡ some n → leaf k n ≡ leaf j m
-    go true p q = ap₂ leaf (sameN-eq k j p) (sym (some-inj q))
+    go true p q = ap₂ leaf (sameLeaf-is k j p) (sym (some-inj q))
     go false p q = none≢some q
-asNam-some k (lambda x A e) h = none≢some h
-asNam-some k (one o e) h = none≢some h
-asNam-some k (two o a b) h = none≢some h
-asNam-some k (if a b c) h = none≢some h
+asLeaf-some k (lambda x A e) h = none≢some h
+asLeaf-some k (one o e) h = none≢some h
+asLeaf-some k (two o a b) h = none≢some h
+asLeaf-some k (if a b c) h = none≢some h
 
-pub asLam-some : (e : Expression) {f : Lambda} → asLambda e ≡ some f → lambda (f .variable) (f .type) (f .body) ≡ e
-asLam-some (constant c) h = none≢some h
-asLam-some (leaf j m) h = none≢some h
-asLam-some (lambda x A e) h = ap (λ (f : Lambda). lambda (f .variable) (f .type) (f .body)) (sym (some-inj h))
-asLam-some (one o e) h = none≢some h
-asLam-some (two o a b) h = none≢some h
-asLam-some (if a b c) h = none≢some h
+pub asLambda-some : (e : Expression) {f : Lambda} → asLambda e ≡ some f → lambda (f .variable) (f .type) (f .body) ≡ e
+asLambda-some (constant c) h = none≢some h
+asLambda-some (leaf j m) h = none≢some h
+asLambda-some (lambda x A e) h = ap (λ (f : Lambda). lambda (f .variable) (f .type) (f .body)) (sym (some-inj h))
+asLambda-some (one o e) h = none≢some h
+asLambda-some (two o a b) h = none≢some h
+asLambda-some (if a b c) h = none≢some h
 
-pub asBool-some : (e : Expression) {t : Bool} → asTruth e ≡ some t → constant (bool t) ≡ e
-asBool-some (constant unit) h = none≢some h
-asBool-some (constant (bool b)) h = ap (λ t. constant (bool t)) (sym (some-inj h))
-asBool-some (leaf j m) h = none≢some h
-asBool-some (lambda x A e) h = none≢some h
-asBool-some (one o e) h = none≢some h
-asBool-some (two o a b) h = none≢some h
-asBool-some (if a b c) h = none≢some h
+pub asTruth-some : (e : Expression) {t : Bool} → asTruth e ≡ some t → constant (bool t) ≡ e
+asTruth-some (constant unit) h = none≢some h
+asTruth-some (constant (bool b)) h = ap (λ t. constant (bool t)) (sym (some-inj h))
+asTruth-some (leaf j m) h = none≢some h
+asTruth-some (lambda x A e) h = none≢some h
+asTruth-some (one o e) h = none≢some h
+asTruth-some (two o a b) h = none≢some h
+asTruth-some (if a b c) h = none≢some h
 
-pub asVal-some : (e : Expression) {v : Expression} → asValue e ≡ some v → (v ≡ e) × (value e ≡ true)
-asVal-some e {v} h = go (value e) refl h
+pub asValue-some : (e : Expression) {v : Expression} → asValue e ≡ some v → (v ≡ e) × (value e ≡ true)
+asValue-some e {v} h = go (value e) refl h
   where
     go : (b : Bool) → value e ≡ b → cond b (some e) none ≡ some v → (v ≡ e) × (value e ≡ true)
     go true p q = (sym (some-inj q), p)
     go false p q = none≢some q
 
-pub redex-back : (e : Expression) {R : Redex} → redex e ≡ some R → expressionAt R ≡ e
-redex-back (constant c) h = none≢some h
-redex-back (leaf j n) h = none≢some h
-redex-back (lambda x A e) h = none≢some h
-redex-back (one ref e) h =
+pub redex-expression : (e : Expression) {R : Redex} → redex e ≡ some R → expressionAt R ≡ e
+redex-expression (constant c) h = none≢some h
+redex-expression (leaf j n) h = none≢some h
+redex-expression (lambda x A e) h = none≢some h
+redex-expression (one ref e) h =
     let (v, p, q) = ▸-some (asValue e) (λ v. some (making (plain v))) h in
-    ap expressionAt (sym (some-inj q)) ∙ ap (one ref) (asVal-some e p .0)
-redex-back (one read e) h =
+    ap expressionAt (sym (some-inj q)) ∙ ap (one ref) (asValue-some e p .0)
+redex-expression (one read e) h =
     let (l, p, q) = ▸-some (asLeaf location e) (λ v. some (reading v)) h in
-    ap expressionAt (sym (some-inj q)) ∙ ap (one read) (asNam-some location e p)
-redex-back (one fork e) h = ap expressionAt (sym (some-inj h))
-redex-back (one join e) h =
+    ap expressionAt (sym (some-inj q)) ∙ ap (one read) (asLeaf-some location e p)
+redex-expression (one fork e) h = ap expressionAt (sym (some-inj h))
+redex-expression (one join e) h =
     let (l, p, q) = ▸-some (asLeaf revision e) (λ v. some (joining v)) h in
-    ap expressionAt (sym (some-inj q)) ∙ ap (one join) (asNam-some revision e p)
-redex-back (two apply a b) h =
+    ap expressionAt (sym (some-inj q)) ∙ ap (one join) (asLeaf-some revision e p)
+redex-expression (two apply a b) h =
     let (f, p, k) = ▸-some (asLambda a) (λ f. asValue b ▸ λ v. some (applying f v)) h in
     let (v, q, j) = ▸-some (asValue b) (λ v. some (applying f v)) k in
-    ap expressionAt (sym (some-inj j)) ∙ ap₂ (two apply) (asLam-some a p) (asVal-some b q .0)
-redex-back (two assign a b) h =
+    ap expressionAt (sym (some-inj j)) ∙ ap₂ (two apply) (asLambda-some a p) (asValue-some b q .0)
+redex-expression (two assign a b) h =
     let (l, p, k) = ▸-some (asLeaf location a) (λ f. asValue b ▸ λ v. some (assigning f v)) h in
     let (v, q, j) = ▸-some (asValue b) (λ v. some (assigning l v)) k in
-    ap expressionAt (sym (some-inj j)) ∙ ap₂ (two assign) (asNam-some location a p) (asVal-some b q .0)
-redex-back (two (arithmetic o) a b) h =
+    ap expressionAt (sym (some-inj j)) ∙ ap₂ (two assign) (asLeaf-some location a p) (asValue-some b q .0)
+redex-expression (two (arithmetic o) a b) h =
     let (m, p, k) = ▸-some (asLeaf number a) (λ m. asLeaf number b ▸ λ n. some (calculating o m n)) h in
     let (n, q, j) = ▸-some (asLeaf number b) (λ n. some (calculating o m n)) k in
-    ap expressionAt (sym (some-inj j)) ∙ ap₂ (two (arithmetic o)) (asNam-some number a p) (asNam-some number b q)
-redex-back (if a b c) h =
+    ap expressionAt (sym (some-inj j)) ∙ ap₂ (two (arithmetic o)) (asLeaf-some number a p) (asLeaf-some number b q)
+redex-expression (if a b c) h =
     let (t, p, k) = ▸-some (asTruth a) (λ t. some (choosing t b c)) h in
-    ap expressionAt (sym (some-inj k)) ∙ ap (λ x. if x b c) (asBool-some a p)
+    ap expressionAt (sym (some-inj k)) ∙ ap (λ x. if x b c) (asTruth-some a p)
 
-pub At-plug : {e : Expression} {E : Context} {R : Redex} → Decomposed e E R → plug E (expressionAt R) ≡ e
-At-plug (here {e} h) = redex-back e h
-At-plug (within f t a) = ap (fill f) (At-plug a)
+pub decomposed-plug : {e : Expression} {E : Context} {R : Redex} → Decomposed e E R → plug E (expressionAt R) ≡ e
+decomposed-plug (here {e} h) = redex-expression e h
+decomposed-plug (within f t a) = ap (fill f) (decomposed-plug a)
 
 -- the value that a redex holds
 abbrev pub Held : Redex → Type 0
@@ -282,7 +282,7 @@ redex-held (leaf k n) h = none≢some h
 redex-held (lambda x A e) h = none≢some h
 redex-held (one ref e) h =
     let (v, p, q) = ▸-some (asValue e) (λ v. some (making (plain v))) h in
-    let (i, u) = asVal-some e p in along Held (some-inj q) (rw (i, u) tt)
+    let (i, u) = asValue-some e p in along Held (some-inj q) (rw (i, u) tt)
 redex-held (one read e) h = let (l, p, q) = ▸-some (asLeaf location e) (λ v. some (reading v)) h in along Held (some-inj q) tt
 redex-held (one fork e) h = along Held (some-inj h) tt
 redex-held (one join e) h = let (l, p, q) = ▸-some (asLeaf revision e) (λ v. some (joining v)) h in along Held (some-inj q) tt
@@ -292,12 +292,17 @@ redex-held (two apply a b) h =
 redex-held (two assign a b) h =
     let (l, p, k) = ▸-some (asLeaf location a) (λ f. asValue b ▸ λ v. some (assigning f v)) h in
     let (v, q, j) = ▸-some (asValue b) (λ v. some (assigning l v)) k in
-    let (i, u) = asVal-some b q in along Held (some-inj j) (rw (i, u) tt)
+    let (i, u) = asValue-some b q in along Held (some-inj j) (rw (i, u) tt)
 redex-held (two (arithmetic o) a b) h =
     let (m, p, k) = ▸-some (asLeaf number a) (λ m. asLeaf number b ▸ λ n. some (calculating o m n)) h in
     let (n, q, j) = ▸-some (asLeaf number b) (λ n. some (calculating o m n)) k in along Held (some-inj j) tt
 redex-held (if a b c) h = let (t, p, k) = ▸-some (asTruth a) (λ t. some (choosing t b c)) h in along Held (some-inj k) tt
 
-pub At-held : {e : Expression} {E : Context} {R : Redex} → Decomposed e E R → Held R
-At-held (here {e} h) = redex-held e h
-At-held (within f t a) = At-held a
+pub decomposed-held : {e : Expression} {E : Context} {R : Redex} → Decomposed e E R → Held R
+decomposed-held (here {e} h) = redex-held e h
+decomposed-held (within f t a) = decomposed-held a
+
+-- there is one decomposition at most (001, unique decomposition)
+pub decomposition-unique : {e : Expression} {E F : Context} {Q R : Redex} → Decomposed e E Q → Decomposed e F R → (E ≡ F) × (Q ≡ R)
+decomposition-unique a b =
+    let p = sym (decomposed-place a) ∙ decomposed-place b in (cc, cc)

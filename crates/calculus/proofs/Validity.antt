@@ -16,7 +16,7 @@ use Rattle.calculus.specs.Formed.{member, Formed, closedIn, value}
 use Rattle.calculus.specs.Numbers.{calculated, choose}
 use Rattle.calculus.specs.Stores.{Cell, content}
 use Rattle.calculus.specs.States.{Task, State, absorbed, view}
-use Rattle.calculus.specs.Images.{Listed, ValidStore, Valid, ValidCell, ValidTask, image}
+use Rattle.calculus.specs.Images.{Listed, Valid, ValidStore, ValidCell, ValidTask, image}
 use Rattle.calculus.specs.Substitution.{substituted}
 use Rattle.calculus.specs.Redexes.{Redex, expressionAt, applying, choosing, calculating, making, reading}
 use Rattle.calculus.specs.Redexes.{assigning, forking, joining}
@@ -28,11 +28,11 @@ use Rattle.calculus.proofs.Options.{T-fst, T-snd, T-both, false→ne, t
 use Rattle.calculus.proofs.Maps.{tri, above, get-head, above-rising, Tri, below, get-tail, same, get-above}
 use Rattle.calculus.proofs.Maps.{rising-put, rising-overlaid, put-cases, rising-remove, get-remove-same}
 use Rattle.calculus.proofs.Maps.{get-remove-other, get-none}
-use Rattle.calculus.proofs.Places.{Held, At-plug, At-held}
+use Rattle.calculus.proofs.Places.{Held, decomposed-plug, decomposed-held}
 use Rattle.calculus.proofs.Members.{member-cons, member-here, member-there}
-use Rattle.calculus.proofs.Cells.{rising-absorbed, written-at, written-is}
-use Rattle.calculus.proofs.Entries.{Every, every-put, every-overlaid, every-absorbed}
-use Rattle.calculus.proofs.NewNumbers.{first-smallest}
+use Rattle.calculus.proofs.Stores.{Every, every-put, every-overlaid, rising-absorbed, every-absorbed}
+use Rattle.calculus.proofs.Stores.{written-at, written-is}
+use Rattle.calculus.proofs.NewNumbers.{smallest-is}
 
 abbrev Inside : List ℕ → List ℕ → Type 0
 Inside xs ys = (n : ℕ) → T (member n xs) → T (member n ys)
@@ -297,7 +297,7 @@ module _ (s : State) (sv : StateV s) (r : ℕ) (L : Task) (at : get r s ≡ some
       go false x y = y
   rule-valid R u site held (byArithmetic o m n) = becomes (L .local) _ (calculating o m n) site (here-v .local) (ok-calc o m n)
   rule-valid R u site held (byRef v l h) =
-      let x = first-smallest 256 0 (takenLocations s) h .high in
+      let x = smallest-is 256 0 (takenLocations s) h .high in
       becomes (put l v (L .local)) (leaf location l) (making v) site (put-v l v (L .local) (omega arith, in-site (making v) site, held) (here-v .local)) (omega arith)
   rule-valid R u site held (byRead l v h) = becomes (L .local) (content v) (reading l) site (here-v .local) (view-v .all l v h .1)
   rule-valid R u site held (byAssign l v d h) =
@@ -305,7 +305,7 @@ module _ (s : State) (sv : StateV s) (r : ℕ) (L : Task) (at : get r s ≡ some
       let e = sym (written-is (view L) l v d h) in
       becomes (put l d (L .local)) (constant unit) (assigning l v) site (put-v l d (L .local) (view-v .all l c w .0, along (Ok []) e (in-site (assigning l v) site .1), along (λ x. T (value x)) e held) (here-v .local)) tt
   rule-valid R u site held (byFork e r′ h) =
-      let x = first-smallest 64 0 (takenRevisions s) h .high in
+      let x = smallest-is 64 0 (takenRevisions s) h .high in
       put-state r′ (record { snapshot = view L; local = []; expression = e }) (put r (become L (L .local) (plug E (leaf revision r′))) s) (omega arith)
       (record { snapshot = view-v; local = record { up = tt; all = λ l v k. none≢some (sym (get-none l) ∙ k) }; expression = in-site (forking e) site })
       (becomes (L .local) (leaf revision r′) (forking e) site (here-v .local) (omega arith))
@@ -315,5 +315,5 @@ module _ (s : State) (sv : StateV s) (r : ℕ) (L : Task) (at : get r s ≡ some
       (remove-state r′ s sv)
   rule-valid R u site held (byJoinGone r′ h) = record { up = tt; all = λ q K g. none≢some (sym (get-none q) ∙ g) }
 
-pub step-valid : (r : ℕ) (s u : State) → Valid s → Step r s u → length (image u) ≤ 8192 → Valid u
-step-valid r s u v t h = v-valid u (rule-valid s (valid-v s v) r (t .task) (t .live) (t .context) (t .redex) u (At-plug (t .place)) (At-held (t .place)) (t .rule)) h
+pub step-keeps-valid : (r : ℕ) (s u : State) → Valid s → Step r s u → length (image u) ≤ 8192 → Valid u
+step-keeps-valid r s u v t h = v-valid u (rule-valid s (valid-v s v) r (t .task) (t .live) (t .context) (t .redex) u (decomposed-plug (t .place)) (decomposed-held (t .place)) (t .rule)) h

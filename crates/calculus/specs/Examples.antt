@@ -34,6 +34,23 @@ table =
     ∷ checking (9 ∷ 2 ∷ 0 ∷ 1 ∷ []) 13 []
     ∷ []
 
+-- "Errors that look right": for each, a step that it would get wrong
+abbrev pub lookRight : List Example
+lookRight =
+    -- a new revision number that skips live ones only
+    stepping (1 ∷ 0 ∷ 0 ∷ 0 ∷ 13 ∷ 6 ∷ 1 ∷ []) 0 0 (2 ∷ 0 ∷ 0 ∷ 0 ∷ 6 ∷ 2 ∷ 2 ∷ 0 ∷ 0 ∷ 6 ∷ 1 ∷ [])
+    -- a child that gets the parent's local store without the snapshot
+    ∷ stepping (1 ∷ 0 ∷ 1 ∷ 3 ∷ 2 ∷ 0 ∷ 13 ∷ 0 ∷ []) 0 0
+    (2 ∷ 0 ∷ 1 ∷ 3 ∷ 2 ∷ 0 ∷ 6 ∷ 1 ∷ 1 ∷ 1 ∷ 3 ∷ 2 ∷ 0 ∷ 0 ∷ [])
+    -- a join that keeps the parent's write where both wrote
+    ∷ stepping (2 ∷ 0 ∷ 0 ∷ 1 ∷ 4 ∷ 1 ∷ 14 ∷ 6 ∷ 5 ∷ 5 ∷ 0 ∷ 1 ∷ 4 ∷ 2 ∷ 0 ∷ []) 0 0
+    (1 ∷ 0 ∷ 0 ∷ 1 ∷ 4 ∷ 2 ∷ 0 ∷ [])
+    -- waiting, instead of the empty state, on a task that is gone
+    ∷ stepping (2 ∷ 0 ∷ 0 ∷ 0 ∷ 14 ∷ 6 ∷ 9 ∷ 4 ∷ 0 ∷ 0 ∷ 13 ∷ 0 ∷ []) 0 1 (0 ∷ [])
+    -- taking 65535 as larger than 0 in less
+    ∷ stepping (1 ∷ 0 ∷ 0 ∷ 0 ∷ 17 ∷ 3 ∷ 0 ∷ 3 ∷ 65535 ∷ []) 0 0 (1 ∷ 0 ∷ 0 ∷ 0 ∷ 1 ∷ [])
+    ∷ []
+
 unfoldable pub sameWords : List ℕ → List ℕ → Bool
 sameWords [] [] = true
 sameWords [] (y ∷ ys) = false
