@@ -63,7 +63,7 @@ pub fn no_marks() -> InUse
 }
 
 // One more mark, counted where it is new; a number past the marks is none.
-fn with_mark(used: InUse, number: u16) -> InUse
+pub fn with_mark(used: InUse, number: u16) -> InUse
     requires { ⌜ Counted used ⌝ }
     ensures { λ r. ⌜ Marked used number r ⌝ }
 {

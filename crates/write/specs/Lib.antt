@@ -1,0 +1,4 @@
+-- What the contracts of this crate cite, beside the definitions of calculus and image.
+pub mod Cursor
+pub mod Overlay
+pub mod Entry
