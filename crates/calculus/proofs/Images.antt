@@ -1,4 +1,5 @@
--- The image determines the state and the state the image: reading an image gives back its state, and what is read is an image.
+-- The image determines the state and the state the image: reading an image gives back its state, and what is read is
+-- an image.
 -- a reader that reads back what w writes of what is ok, where that is not longer than the fuel
 use Prim.Native.Nat.{ℕ, _≤_, _+_, suc, zero}
 use mathlib.Core.Bool.{_&&_}

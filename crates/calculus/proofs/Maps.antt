@@ -55,7 +55,8 @@ module _ {A : Type 0} where
   get-put-same k a [] = rw (eqb-same k) refl
   get-put-same k a (e ∷ m) = go (ltb k (e .0)) (eqb k (e .0)) refl refl (get-put-same k a m)
     where
-      go : (b c : Bool) → ltb k (e .0) ≡ b → eqb k (e .0) ≡ c → get k (put k a m) ≡ some a → get k (put k a (e ∷ m)) ≡ some a
+      go : (b c : Bool) → ltb k (e .0) ≡ b → eqb k (e .0) ≡ c → get k (put k a m) ≡ some a
+          → get k (put k a (e ∷ m)) ≡ some a
       go true c p q h = rw (p, eqb-same k) refl
       go false true p q h = rw (p, q, eqb-same k) refl
       go false false p q h = rw (p, q) (rw q h)
@@ -65,9 +66,11 @@ module _ {A : Type 0} where
   get-put-other k j a [] d = rw (eqb-other j k d) refl
   get-put-other k j a (e ∷ m) d = go (ltb k (e .0)) (eqb k (e .0)) refl refl (get-put-other k j a m d)
     where
-      go : (b c : Bool) → ltb k (e .0) ≡ b → eqb k (e .0) ≡ c → get j (put k a m) ≡ get j m → get j (put k a (e ∷ m)) ≡ get j (e ∷ m)
+      go : (b c : Bool) → ltb k (e .0) ≡ b → eqb k (e .0) ≡ c → get j (put k a m) ≡ get j m
+          → get j (put k a (e ∷ m)) ≡ get j (e ∷ m)
       go true c p q h = rw (p, eqb-other j k d) refl
-      go false true p q h = rw (p, q, eqb-other j k d, eqb-other j (e .0) (along (λ x. j ≢ x) (true→eq k (e .0) q) d)) refl
+      go false true p q h =
+          rw (p, q, eqb-other j k d, eqb-other j (e .0) (along (λ x. j ≢ x) (true→eq k (e .0) q) d)) refl
       go false false p q h = rw (p, q) (ap (cond (eqb j (e .0)) (some (e .1))) h)
 
   pub get-overlaid : (k : ℕ) (m n : Map A) → get k (overlaid m n) ≡ orElse (get k n) (get k m)
@@ -75,7 +78,8 @@ module _ {A : Type 0} where
   get-overlaid k m [] = refl
   get-overlaid k m (e ∷ n) = go (eqb k (e .0)) refl (get-overlaid k m n)
     where
-      go : (b : Bool) → eqb k (e .0) ≡ b → get k (overlaid m n) ≡ orElse (get k n) (get k m) → get k (overlaid m (e ∷ n)) ≡ orElse (get k (e ∷ n)) (get k m)
+      go : (b : Bool) → eqb k (e .0) ≡ b → get k (overlaid m n) ≡ orElse (get k n) (get k m)
+          → get k (overlaid m (e ∷ n)) ≡ orElse (get k (e ∷ n)) (get k m)
       go true q h = rw q (rw (true→eq k (e .0) q) (get-put-same (e .0) (e .1) (overlaid m n)))
       go false q h = rw q (get-put-other (e .0) k (e .1) (overlaid m n) (false→ne k (e .0) q) ∙ h)
 
@@ -102,7 +106,8 @@ module _ {A : Type 0} where
   above-put j k a [] h r = (h, tt)
   above-put j k a (e ∷ m) h r = go (ltb k (e .0)) (eqb k (e .0)) refl refl (λ h′. above-put (e .0) k a m h′ (r .1))
     where
-      go : (b c : Bool) → ltb k (e .0) ≡ b → eqb k (e .0) ≡ c → (e .0 < k → Above (e .0) (put k a m)) → Above j (put k a (e ∷ m))
+      go : (b c : Bool) → ltb k (e .0) ≡ b → eqb k (e .0) ≡ c → (e .0 < k → Above (e .0) (put k a m))
+          → Above j (put k a (e ∷ m))
       go true c p q f = rw p (h, (ltb→lt k (e .0) (rw p tt), r .1))
       go false true p q f = rw (p, q) (h, rw (true→eq k (e .0) q) (r .1))
       go false false p q f =
@@ -159,10 +164,12 @@ module _ {A : Type 0} where
   map-ext [] [] r s h = refl
   map-ext [] (e ∷ n) r s h = none≢some (sym (get-none (e .0)) ∙ h (e .0) ∙ get-head e n)
   map-ext (d ∷ m) [] r s h = none≢some (sym (get-none (d .0)) ∙ sym (h (d .0)) ∙ get-head d m)
-  map-ext (d ∷ m) (e ∷ n) r s h = go (tri (d .0) (e .0)) (λ f. map-ext m n (above-rising (d .0) m r) (above-rising (e .0) n s) f)
+  map-ext (d ∷ m) (e ∷ n) r s h =
+      go (tri (d .0) (e .0)) (λ f. map-ext m n (above-rising (d .0) m r) (above-rising (e .0) n s) f)
     where
       go : Tri (d .0) (e .0) → (((k : ℕ) → get k m ≡ get k n) → m ≡ n) → d ∷ m ≡ e ∷ n
-      go (below l) f = none≢some (sym (get-above (d .0) (d .0) (e ∷ n) (l, s) (omega arith)) ∙ sym (h (d .0)) ∙ get-head d m)
+      go (below l) f =
+          none≢some (sym (get-above (d .0) (d .0) (e ∷ n) (l, s) (omega arith)) ∙ sym (h (d .0)) ∙ get-head d m)
       go (above l) f = none≢some (sym (get-above (e .0) (e .0) (d ∷ m) (l, r) (omega arith)) ∙ h (e .0) ∙ get-head e n)
       go (same p) f =
           let v : d .1 ≡ e .1 = some-inj (sym (get-head d m) ∙ h (d .0) ∙ ap (λ k. get k (e ∷ n)) p ∙ get-head e n) in
@@ -174,7 +181,8 @@ module _ {A : Type 0} where
           tail k (no q) = sym (get-tail k d m q) ∙ h k ∙ get-tail k e n (λ x. q (x ∙ sym p))
 
 -- what a map holds after a put: what was put, or what it held
-pub put-cases : {A : Type 0} (q r : ℕ) (K M : A) (s : Map A) → get q (put r K s) ≡ some M → ((q ≡ r) × (K ≡ M)) ⊎ ((q ≢ r) × (get q s ≡ some M))
+pub put-cases : {A : Type 0} (q r : ℕ) (K M : A) (s : Map A) → get q (put r K s) ≡ some M
+    → ((q ≡ r) × (K ≡ M)) ⊎ ((q ≢ r) × (get q s ≡ some M))
 put-cases q r K M s h = go (ℕ-discrete q r)
   where
     go : Dec (q ≡ r) → ((q ≡ r) × (K ≡ M)) ⊎ ((q ≢ r) × (get q s ≡ some M))

@@ -29,15 +29,27 @@ smallest-is (suc n) k u {j} h = go (member k u) refl h (λ x. smallest-is n (suc
     low p s i (yes e) a b = ap (λ i. member i u) e ∙ p
     low p s i (no d) a b = s .least i (omega arith) b
 
-    go : (b : Bool) → member k u ≡ b → _≡_ {A = Option ℕ} (elim b [ true ↦ smallest n (suc k) u | false ↦ some k ]) (some j) → (smallest n (suc k) u ≡ some j → Smallest n (suc k) u j) → Smallest (suc n) k u j
+    go : (b : Bool) → member k u ≡ b → _≡_ {A = Option ℕ} (elim b [ true ↦ smallest n (suc k) u | false ↦ some k ])
+        (some j) → (smallest n (suc k) u ≡ some j → Smallest n (suc k) u j) → Smallest (suc n) k u j
     go true p q ih =
         let s = ih q in
         let a = s .low in
         let b = s .high in
-        record { low = omega arith; high = omega arith; free = s .free; least = λ i x y. low p s i (ℕ-discrete i k) x y }
+        record {
+          low = omega arith;
+          high = omega arith;
+          free = s .free;
+          least = λ i x y. low p s i (ℕ-discrete i k) x y;
+        }
     go false p q ih =
         let e : k ≡ j = some-inj q in
-        record { low = omega arith; high = omega arith; free = along (λ j. member j u ≡ false) e p; least = λ i x y. absurd (omega arith) }
+        record {
+          low = omega arith;
+          high = omega arith;
+          free = along (λ j. member j u ≡ false) e p;
+          least = λ i x y.
+              absurd (omega arith);
+        }
 
 -- where none is found all are taken
 pub smallest-none : (n k : ℕ) (u : List ℕ) → smallest n k u ≡ none → (i : ℕ) → k ≤ i → i < n + k → member i u ≡ true
@@ -45,7 +57,8 @@ unfolding smallest
 smallest-none zero k u h i a b = absurd (omega arith)
 smallest-none (suc n) k u h i a b = go (member k u) refl h (λ x. smallest-none n (suc k) u x i) (ℕ-discrete i k)
   where
-    go : (c : Bool) → member k u ≡ c → _≡_ {A = Option ℕ} (elim c [ true ↦ smallest n (suc k) u | false ↦ some k ]) none → (smallest n (suc k) u ≡ none → suc k ≤ i → i < n + suc k → member i u ≡ true) → Dec (i ≡ k) → member i u ≡ true
+    go : (c : Bool) → member k u ≡ c → _≡_ {A = Option ℕ} (elim c [ true ↦ smallest n (suc k) u | false ↦ some k ]) none
+        → (smallest n (suc k) u ≡ none → suc k ≤ i → i < n + suc k → member i u ≡ true) → Dec (i ≡ k) → member i u ≡ true
     go true p q ih (yes e) = ap (λ i. member i u) e ∙ p
     go true p q ih (no d) = ih q (omega arith) (omega arith)
     go false p q ih d = none≢some (sym q)
@@ -73,7 +86,9 @@ unfolding smallest
 smallest-same zero k u w h = refl
 smallest-same (suc n) k u w h = go (member k u) (member k w) (h k) (smallest-same n (suc k) u w h)
   where
-    go : (b c : Bool) → b ≡ c → smallest n (suc k) u ≡ smallest n (suc k) w → _≡_ {A = Option ℕ} (elim b [ true ↦ smallest n (suc k) u | false ↦ some k ]) (elim c [ true ↦ smallest n (suc k) w | false ↦ some k ])
+    go : (b c : Bool) → b ≡ c → smallest n (suc k) u ≡ smallest n (suc k) w → _≡_ {A = Option ℕ}
+        (elim b [ true ↦ smallest n (suc k) u | false ↦ some k ])
+        (elim c [ true ↦ smallest n (suc k) w | false ↦ some k ])
     go true true p ih = ih
     go true false p ih = true≢false p
     go false true p ih = true≢false (sym p)

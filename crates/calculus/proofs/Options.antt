@@ -15,7 +15,8 @@ pub some-inj : {A : Type 0} {a b : A} → _≡_ {A = Option A} (some a) (some b)
 some-inj e = cc
 
 -- what a bind that gives something went through
-pub ▸-some : {A B : Type 0} (m : Option A) (f : A → Option B) {b : B} → (m ▸ f) ≡ some b → (a : A) × (m ≡ some a) × (f a ≡ some b)
+pub ▸-some : {A B : Type 0} (m : Option A) (f : A → Option B) {b : B} → (m ▸ f) ≡ some b
+    → (a : A) × (m ≡ some a) × (f a ≡ some b)
 ▸-some none f e = none≢some e
 ▸-some (some a) f e = (a, refl, e)
 
@@ -57,4 +58,6 @@ pub true→eq : (m n : ℕ) → eqb m n ≡ true → m ≡ n
 true→eq m n e = eqb→eq m n (rw e tt)
 
 pub false→ne : (m n : ℕ) → eqb m n ≡ false → m ≢ n
-false→ne m n e p = let z : true ≡ false = sym (eqb-same m) ∙ ap (λ k. eqb m k) p ∙ e in absurd (let y : _≡_ {A = ℕ} 0 1 = cc in omega arith)
+false→ne m n e p =
+    let z : true ≡ false = sym (eqb-same m) ∙ ap (λ k. eqb m k) p ∙ e in
+    absurd (let y : _≡_ {A = ℕ} 0 1 = cc in omega arith)

@@ -103,7 +103,8 @@ pub place-fill : (f : Frame) (e : Expression) → T (enters f) → value e ≡ f
 unfolding place
 place-fill (only o) e t h = rw (open-none (only o) e t h, h) refl
 place-fill (firstOf o b) e t h = rw (open-none (firstOf o b) e t h, h) refl
-place-fill (secondOf o a) e t h = rw (open-none (secondOf o a) e t h, left-val o a t, h, T→true (entersSecond o a) t) refl
+place-fill (secondOf o a) e t h =
+    rw (open-none (secondOf o a) e t h, left-val o a t, h, T→true (entersSecond o a) t) refl
 place-fill (condition b c) e t h = rw (open-none (condition b c) e t h, h) refl
 
 pub place-here : (e : Expression) {R : Redex} → redex e ≡ some R → place e ≡ worksAt [] R
@@ -120,12 +121,15 @@ decomposed-place (here {e} h) = place-here e h
 decomposed-place (within f {e} t a) = place-fill f e t (decomposed-not-value a) ∙ ap (under f) (decomposed-place a)
 
 -- the other way
-under-work : (f : Frame) (p : Place) {E : Context} {R : Redex} → under f p ≡ worksAt E R → (F : Context) × (p ≡ worksAt F R) × (f ∷ F ≡ E)
+under-work : (f : Frame) (p : Place) {E : Context} {R : Redex} → under f p ≡ worksAt E R
+    → (F : Context) × (p ≡ worksAt F R) × (f ∷ F ≡ E)
 under-work f isValue h = absurd (let z : _≡_ {A = ℕ} 0 1 = cc in omega arith)
 under-work f (worksAt F Q) {E} {R} h = (F, cc, cc)
 under-work f (stuckAt F e) h = absurd (let z : _≡_ {A = ℕ} 0 1 = cc in omega arith)
 
-enter : (f : Frame) (e : Expression) {E : Context} {R : Redex} → T (enters f) → ((F : Context) → place e ≡ worksAt F R → Decomposed e F R) → under f (place e) ≡ worksAt E R → Decomposed (fill f e) E R
+enter : (f : Frame) (e : Expression) {E : Context} {R : Redex} → T (enters f)
+    → ((F : Context) → place e ≡ worksAt F R → Decomposed e F R) → under f (place e) ≡ worksAt E R
+    → Decomposed (fill f e) E R
 enter f e {E} {R} t ih h =
     let (F, p, q) = under-work f (place e) h in
     along (λ E. Decomposed (fill f e) E R) q (within f t (ih F p))
@@ -136,7 +140,8 @@ stuck≢work h = absurd (let z : _≡_ {A = ℕ} 0 1 = cc in omega arith)
 value≢work : {E : Context} {R : Redex} {C : Type 0} → isValue ≡ worksAt E R → C
 value≢work h = absurd (let z : _≡_ {A = ℕ} 0 1 = cc in omega arith)
 
-work-here : {e : Expression} {E : Context} {Q R : Redex} → redex e ≡ some Q → worksAt [] Q ≡ worksAt E R → Decomposed e E R
+work-here : {e : Expression} {E : Context} {Q R : Redex} → redex e ≡ some Q → worksAt [] Q ≡ worksAt E R
+    → Decomposed e E R
 work-here {e} {E} {Q} {R} p h =
     let q : [] ≡ E = cc in
     let r : Q ≡ R = cc in
@@ -155,15 +160,22 @@ place-decomposed (leaf k n) E R h = value≢work h
 place-decomposed (lambda x A e) E R h = value≢work h
 place-decomposed (one o e) E R h = go (redexOne o e) refl (value e) h (λ F. place-decomposed e F R)
   where
-    go : (m : Option Redex) → redexOne o e ≡ m → (b : Bool) → orElsewhere m (cond b (stuckAt [] (one o e)) (under (only o) (place e))) ≡ worksAt E R → ((F : Context) → place e ≡ worksAt F R → Decomposed e F R) → Decomposed (one o e) E R
+    go : (m : Option Redex) → redexOne o e ≡ m → (b : Bool)
+        → orElsewhere m (cond b (stuckAt [] (one o e)) (under (only o) (place e))) ≡ worksAt E R
+        → ((F : Context) → place e ≡ worksAt F R → Decomposed e F R) → Decomposed (one o e) E R
     go (some Q) p b h ih = work-here p h
     go none p true h ih = stuck≢work h
     go none p false h ih = enter (only o) e (opens-one o e p) ih h
-place-decomposed (two o a b) E R h = go (redexTwo o a b) refl (value a) (value b) (entersSecond o a) refl h (λ F. place-decomposed a F R) (λ F. place-decomposed b F R)
+place-decomposed (two o a b) E R h =
+    go (redexTwo o a b) refl (value a) (value b) (entersSecond o a) refl h (λ F. place-decomposed a F R)
+    (λ F. place-decomposed b F R)
   where
     go : (m : Option Redex) → redexTwo o a b ≡ m → (u v w : Bool) → entersSecond o a ≡ w
-        → orElsewhere m (cond u (cond v (stuckAt [] (two o a b)) (cond w (under (secondOf o a) (place b)) (stuckAt [] (two o a b)))) (under (firstOf o b) (place a))) ≡ worksAt E R
-        → ((F : Context) → place a ≡ worksAt F R → Decomposed a F R) → ((F : Context) → place b ≡ worksAt F R → Decomposed b F R) → Decomposed (two o a b) E R
+        → orElsewhere m (cond u
+        (cond v (stuckAt [] (two o a b)) (cond w (under (secondOf o a) (place b)) (stuckAt [] (two o a b))))
+        (under (firstOf o b) (place a))) ≡ worksAt E R
+        → ((F : Context) → place a ≡ worksAt F R → Decomposed a F R)
+        → ((F : Context) → place b ≡ worksAt F R → Decomposed b F R) → Decomposed (two o a b) E R
     go (some Q) p u v w q h ia ib = work-here p h
     go none p true true w q h ia ib = stuck≢work h
     go none p true false true q h ia ib = enter (secondOf o a) b (rw q tt) ib h
@@ -171,7 +183,9 @@ place-decomposed (two o a b) E R h = go (redexTwo o a b) refl (value a) (value b
     go none p false v w q h ia ib = enter (firstOf o b) a tt ia h
 place-decomposed (if a b c) E R h = go (redexIf a b c) refl (value a) h (λ F. place-decomposed a F R)
   where
-    go : (m : Option Redex) → redexIf a b c ≡ m → (u : Bool) → orElsewhere m (cond u (stuckAt [] (if a b c)) (under (condition b c) (place a))) ≡ worksAt E R → ((F : Context) → place a ≡ worksAt F R → Decomposed a F R) → Decomposed (if a b c) E R
+    go : (m : Option Redex) → redexIf a b c ≡ m → (u : Bool)
+        → orElsewhere m (cond u (stuckAt [] (if a b c)) (under (condition b c) (place a))) ≡ worksAt E R
+        → ((F : Context) → place a ≡ worksAt F R → Decomposed a F R) → Decomposed (if a b c) E R
     go (some Q) p u h ih = work-here p h
     go none p true h ih = stuck≢work h
     go none p false h ih = enter (condition b c) a tt ih h
@@ -283,9 +297,11 @@ redex-held (lambda x A e) h = none≢some h
 redex-held (one ref e) h =
     let (v, p, q) = ▸-some (asValue e) (λ v. some (making (plain v))) h in
     let (i, u) = asValue-some e p in along Held (some-inj q) (rw (i, u) tt)
-redex-held (one read e) h = let (l, p, q) = ▸-some (asLeaf location e) (λ v. some (reading v)) h in along Held (some-inj q) tt
+redex-held (one read e) h =
+    let (l, p, q) = ▸-some (asLeaf location e) (λ v. some (reading v)) h in along Held (some-inj q) tt
 redex-held (one fork e) h = along Held (some-inj h) tt
-redex-held (one join e) h = let (l, p, q) = ▸-some (asLeaf revision e) (λ v. some (joining v)) h in along Held (some-inj q) tt
+redex-held (one join e) h =
+    let (l, p, q) = ▸-some (asLeaf revision e) (λ v. some (joining v)) h in along Held (some-inj q) tt
 redex-held (two apply a b) h =
     let (f, p, k) = ▸-some (asLambda a) (λ f. asValue b ▸ λ v. some (applying f v)) h in
     let (v, q, j) = ▸-some (asValue b) (λ v. some (applying f v)) k in along Held (some-inj j) tt
@@ -296,13 +312,15 @@ redex-held (two assign a b) h =
 redex-held (two (arithmetic o) a b) h =
     let (m, p, k) = ▸-some (asLeaf number a) (λ m. asLeaf number b ▸ λ n. some (calculating o m n)) h in
     let (n, q, j) = ▸-some (asLeaf number b) (λ n. some (calculating o m n)) k in along Held (some-inj j) tt
-redex-held (if a b c) h = let (t, p, k) = ▸-some (asTruth a) (λ t. some (choosing t b c)) h in along Held (some-inj k) tt
+redex-held (if a b c) h =
+    let (t, p, k) = ▸-some (asTruth a) (λ t. some (choosing t b c)) h in along Held (some-inj k) tt
 
 pub decomposed-held : {e : Expression} {E : Context} {R : Redex} → Decomposed e E R → Held R
 decomposed-held (here {e} h) = redex-held e h
 decomposed-held (within f t a) = decomposed-held a
 
 -- there is one decomposition at most (001, unique decomposition)
-pub decomposition-unique : {e : Expression} {E F : Context} {Q R : Redex} → Decomposed e E Q → Decomposed e F R → (E ≡ F) × (Q ≡ R)
+pub decomposition-unique : {e : Expression} {E F : Context} {Q R : Redex} → Decomposed e E Q → Decomposed e F R
+    → (E ≡ F) × (Q ≡ R)
 decomposition-unique a b =
     let p = sym (decomposed-place a) ∙ decomposed-place b in (cc, cc)

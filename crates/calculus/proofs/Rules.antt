@@ -53,7 +53,8 @@ module _ (r : ℕ) (s : State) (me : Task) (E : Context) where
   act-rule (making v) u h = go (newLocation s) refl h
     where
       go : (o : Option ℕ) → newLocation s ≡ o
-          → leadsTo (withNew o (λ l. next (put r (become me (put l v (me .local)) (plug E (leaf location l))) s))) ≡ some u
+          → leadsTo (withNew o (λ l. next (put r (become me (put l v (me .local)) (plug E (leaf location l))) s))) ≡
+          some u
           → Rule r s me E (making v) u
       go none p q = none≢some q
       go (some l) p q = by-rule (making v) _ u (byRef v l p) q
@@ -67,7 +68,8 @@ module _ (r : ℕ) (s : State) (me : Task) (E : Context) where
   act-rule (assigning l v) u h = go _ (written (view me) l v) refl h
     where
       go : (ρ : Reason) (o : Option Cell) → written (view me) l v ≡ o
-          → leadsTo (withCell ρ o (λ d. next (put r (become me (put l d (me .local)) (plug E (constant unit))) s))) ≡ some u
+          → leadsTo (withCell ρ o (λ d. next (put r (become me (put l d (me .local)) (plug E (constant unit))) s))) ≡
+          some u
           → Rule r s me E (assigning l v) u
       go ρ none p q = none≢some q
       go ρ (some d) p q = by-rule (assigning l v) _ u (byAssign l v d p) q

@@ -12,7 +12,8 @@ use Rattle.calculus.proofs.Options.{▸-some, some-inj, none≢some}
 use Rattle.calculus.proofs.Maps.{get-overlaid, orElse, rising-overlaid, get-none, put-cases}
 
 -- an assignment is of a location in the view, and leaves an entry of the value assigned
-pub written-at : (X : Map Cell) (l : ℕ) (v : Expression) (d : Cell) → written X l v ≡ some d → (c : Cell) × (get l X ≡ some c)
+pub written-at : (X : Map Cell) (l : ℕ) (v : Expression) (d : Cell) → written X l v ≡ some d
+    → (c : Cell) × (get l X ≡ some c)
 unfolding written
 written-at X l v d h = let (c, p, q) = ▸-some (get l X) (λ c. some (plain v)) h in (c, p)
 
@@ -25,16 +26,19 @@ abbrev pub Brought : Task → Task → ℕ → Cell → Cell → Type 0
 Brought L J k c d = c ≡ d
 
 -- what a joiner's store holds at k: its own entry, or what the child wrote
-pub absorbed-from : (L J : Task) (k : ℕ) (d : Cell) → get k (absorbed L J) ≡ some d → (get k (L .local) ≡ some d) ⊎ ((c : Cell) × (get k (J .local) ≡ some c) × Brought L J k c d)
+pub absorbed-from : (L J : Task) (k : ℕ) (d : Cell) → get k (absorbed L J) ≡ some d
+    → (get k (L .local) ≡ some d) ⊎ ((c : Cell) × (get k (J .local) ≡ some c) × Brought L J k c d)
 unfolding absorbed
 absorbed-from L J k d h = go (get k (J .local)) refl (sym (get-overlaid k (L .local) (J .local)) ∙ h)
   where
-    go : (o : Option Cell) → get k (J .local) ≡ o → orElse (get k (J .local)) (get k (L .local)) ≡ some d → (get k (L .local) ≡ some d) ⊎ ((c : Cell) × (get k (J .local) ≡ some c) × Brought L J k c d)
+    go : (o : Option Cell) → get k (J .local) ≡ o → orElse (get k (J .local)) (get k (L .local)) ≡ some d
+        → (get k (L .local) ≡ some d) ⊎ ((c : Cell) × (get k (J .local) ≡ some c) × Brought L J k c d)
     go none p q = inl (ap (λ o. orElse o (get k (L .local))) (sym p) ∙ q)
     go (some c) p q = inr (c, p, some-inj (ap (λ o. orElse o (get k (L .local))) (sym p) ∙ q))
 
 -- it holds what it held and what the child wrote
-pub absorbed-own : (L J : Task) (k : ℕ) (c : Cell) → get k (L .local) ≡ some c → (d : Cell) × (get k (absorbed L J) ≡ some d)
+pub absorbed-own : (L J : Task) (k : ℕ) (c : Cell) → get k (L .local) ≡ some c
+    → (d : Cell) × (get k (absorbed L J) ≡ some d)
 unfolding absorbed
 absorbed-own L J k c h = go (get k (J .local)) refl
   where
@@ -42,7 +46,8 @@ absorbed-own L J k c h = go (get k (J .local)) refl
     go none p = (c, get-overlaid k (L .local) (J .local) ∙ ap (λ o. orElse o (get k (L .local))) p ∙ h)
     go (some d) p = (d, get-overlaid k (L .local) (J .local) ∙ ap (λ o. orElse o (get k (L .local))) p)
 
-pub absorbed-other : (L J : Task) (k : ℕ) (c : Cell) → get k (J .local) ≡ some c → (d : Cell) × (get k (absorbed L J) ≡ some d)
+pub absorbed-other : (L J : Task) (k : ℕ) (c : Cell) → get k (J .local) ≡ some c
+    → (d : Cell) × (get k (absorbed L J) ≡ some d)
 unfolding absorbed
 absorbed-other L J k c h = (c, get-overlaid k (L .local) (J .local) ∙ ap (λ o. orElse o (get k (L .local))) h)
 

@@ -33,7 +33,8 @@ bind-sub x A {Γ} {Δ} h n B = go (eqb n x)
     go true q = q
     go false q = h n B q
 
-pub mono : {U W : World} {Γ Δ : Assignment} → SubW U W → Sub Γ Δ → (e : Expression) (A : ScriptType) → typeOf U Γ e ≡ some A → typeOf W Δ e ≡ some A
+pub mono : {U W : World} {Γ Δ : Assignment} → SubW U W → Sub Γ Δ → (e : Expression) (A : ScriptType)
+    → typeOf U Γ e ≡ some A → typeOf W Δ e ≡ some A
 unfolding typeOf
 mono w g (constant c) A h = h
 mono w g (leaf number n) A h = h
@@ -71,14 +72,16 @@ bind-same x A B Γ = fun-ext (λ n. go n (eqb n x))
 bind-swap : (x y : ℕ) (A B : ScriptType) (Γ : Assignment) → y ≢ x → bind x A (bind y B Γ) ≡ bind y B (bind x A Γ)
 bind-swap x y A B Γ d = fun-ext (λ n. go n (eqb n x) (eqb n y) refl refl)
   where
-    go : (n : ℕ) (b c : Bool) → eqb n x ≡ b → eqb n y ≡ c → cond b (some A) (cond c (some B) (Γ n)) ≡ cond c (some B) (cond b (some A) (Γ n))
+    go : (n : ℕ) (b c : Bool) → eqb n x ≡ b → eqb n y ≡ c
+        → cond b (some A) (cond c (some B) (Γ n)) ≡ cond c (some B) (cond b (some A) (Γ n))
     go n true true p q = absurd (d (sym (true→eq n y q) ∙ true→eq n x p))
     go n true false p q = refl
     go n false true p q = refl
     go n false false p q = refl
 
 -- a closed value for a variable of its type changes no type: an equation, for every expression
-pub subst-typ : (W : World) (x : ℕ) (v : Expression) (A : ScriptType) → ((Δ : Assignment) → typeOf W Δ v ≡ some A) → (e : Expression) (Γ : Assignment) → typeOf W Γ (substituted x v e) ≡ typeOf W (bind x A Γ) e
+pub subst-typ : (W : World) (x : ℕ) (v : Expression) (A : ScriptType) → ((Δ : Assignment) → typeOf W Δ v ≡ some A)
+    → (e : Expression) (Γ : Assignment) → typeOf W Γ (substituted x v e) ≡ typeOf W (bind x A Γ) e
 unfolding typeOf substituted
 subst-typ W x v A hv (constant c) Γ = refl
 subst-typ W x v A hv (leaf number n) Γ = refl
@@ -92,15 +95,18 @@ subst-typ W x v A hv (leaf revision n) Γ = refl
 subst-typ W x v A hv (lambda y B e) Γ = go (eqb y x) refl (subst-typ W x v A hv e (bind y B Γ))
   where
     go : (b : Bool) → eqb y x ≡ b → typeOf W (bind y B Γ) (substituted x v e) ≡ typeOf W (bind x A (bind y B Γ)) e
-        → (typeOf W (bind y B Γ) (cond b e (substituted x v e)) ▸ λ C. some (function B C)) ≡ (typeOf W (bind y B (bind x A Γ)) e ▸ λ C. some (function B C))
+        → (typeOf W (bind y B Γ) (cond b e (substituted x v e)) ▸ λ C. some (function B C)) ≡
+        (typeOf W (bind y B (bind x A Γ)) e ▸ λ C. some (function B C))
     go true p ih = ap (λ Δ. typeOf W Δ e ▸ λ C. some (function B C)) (rw (true→eq y x p) (sym (bind-same x A B Γ)))
-    go false p ih = ap (λ m. m ▸ λ C. some (function B C)) (ih ∙ ap (λ Δ. typeOf W Δ e) (bind-swap x y A B Γ (false→ne y x p)))
+    go false p ih =
+        ap (λ m. m ▸ λ C. some (function B C)) (ih ∙ ap (λ Δ. typeOf W Δ e) (bind-swap x y A B Γ (false→ne y x p)))
 subst-typ W x v A hv (one o e) Γ = rw (subst-typ W x v A hv e Γ)
 subst-typ W x v A hv (two o a b) Γ = rw (subst-typ W x v A hv a Γ, subst-typ W x v A hv b Γ)
 subst-typ W x v A hv (if a b c) Γ = rw (subst-typ W x v A hv a Γ, subst-typ W x v A hv b Γ, subst-typ W x v A hv c Γ)
 
 -- replacement in a context
-pub plug-typ : (W : World) (Γ : Assignment) (E : Context) (d e : Expression) → typeOf W Γ d ≡ typeOf W Γ e → typeOf W Γ (plug E d) ≡ typeOf W Γ (plug E e)
+pub plug-typ : (W : World) (Γ : Assignment) (E : Context) (d e : Expression) → typeOf W Γ d ≡ typeOf W Γ e
+    → typeOf W Γ (plug E d) ≡ typeOf W Γ (plug E e)
 unfolding typeOf
 plug-typ W Γ [] d e h = h
 plug-typ W Γ (only o ∷ E) d e h = rw (plug-typ W Γ E d e h)
@@ -115,9 +121,15 @@ Typed W e = (A : ScriptType) × (typeOf W nothing e ≡ some A)
 pub plug-inv : (W : World) (E : Context) (e : Expression) → Typed W (plug E e) → Typed W e
 unfolding typeOf
 plug-inv W [] e h = h
-plug-inv W (only o ∷ E) e (A, h) = let (B, p, q) = ▸-some (typeOf W nothing (plug E e)) (oneType o) h in plug-inv W E e (B, p)
-plug-inv W (firstOf o b ∷ E) e (A, h) = let (B, p, q) = ▸-some (typeOf W nothing (plug E e)) (λ A. typeOf W nothing b ▸ λ B. twoType o A B) h in plug-inv W E e (B, p)
+plug-inv W (only o ∷ E) e (A, h) =
+    let (B, p, q) = ▸-some (typeOf W nothing (plug E e)) (oneType o) h in plug-inv W E e (B, p)
+plug-inv W (firstOf o b ∷ E) e (A, h) =
+    let (B, p, q) = ▸-some (typeOf W nothing (plug E e)) (λ A. typeOf W nothing b ▸ λ B. twoType o A B) h in
+    plug-inv W E e (B, p)
 plug-inv W (secondOf o a ∷ E) e (A, h) =
     let (B, p, q) = ▸-some (typeOf W nothing a) (λ A. typeOf W nothing (plug E e) ▸ λ B. twoType o A B) h in
     let (C, r, s) = ▸-some (typeOf W nothing (plug E e)) (λ C. twoType o B C) q in plug-inv W E e (C, r)
-plug-inv W (condition b c ∷ E) e (A, h) = let (B, p, q) = ▸-some (typeOf W nothing (plug E e)) (λ A. typeOf W nothing b ▸ λ B. typeOf W nothing c ▸ λ C. ifType A B C) h in plug-inv W E e (B, p)
+plug-inv W (condition b c ∷ E) e (A, h) =
+    let (B, p, q) = ▸-some (typeOf W nothing (plug E e))
+    (λ A. typeOf W nothing b ▸ λ B. typeOf W nothing c ▸ λ C. ifType A B C) h in
+    plug-inv W E e (B, p)

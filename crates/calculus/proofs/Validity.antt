@@ -65,10 +65,18 @@ to-ok xs (leaf location n) f t = f
 to-ok xs (leaf revision n) f t = f
 to-ok xs (lambda x A e) f t = (f .0, to-ok (x ∷ xs) e (f .1) t)
 to-ok xs (one o e) f t = to-ok xs e f t
-to-ok xs (two o a b) f t = (to-ok xs a (f .0) (T-fst (closedIn xs a) (closedIn xs b) t), to-ok xs b (f .1) (T-snd (closedIn xs a) (closedIn xs b) t))
+to-ok xs (two o a b) f t = (
+  to-ok xs a (f .0) (T-fst (closedIn xs a) (closedIn xs b) t),
+  to-ok xs b (f .1)
+      (T-snd (closedIn xs a) (closedIn xs b) t),
+)
 to-ok xs (if a b c) f t =
-    let u = T-snd (closedIn xs a) (closedIn xs b && closedIn xs c) t in
-    (to-ok xs a (f .0) (T-fst (closedIn xs a) (closedIn xs b && closedIn xs c) t), to-ok xs b (f .1) (T-fst (closedIn xs b) (closedIn xs c) u), to-ok xs c (f .2) (T-snd (closedIn xs b) (closedIn xs c) u))
+    let u = T-snd (closedIn xs a) (closedIn xs b && closedIn xs c) t in (
+      to-ok xs a (f .0) (T-fst (closedIn xs a) (closedIn xs b && closedIn xs c) t),
+      to-ok xs b (f .1)
+          (T-fst (closedIn xs b) (closedIn xs c) u),
+      to-ok xs c (f .2) (T-snd (closedIn xs b) (closedIn xs c) u),
+    )
 
 from-ok : (xs : List ℕ) (e : Expression) → Ok xs e → Formed e × T (closedIn xs e)
 unfolding Ok Formed closedIn
@@ -79,7 +87,9 @@ from-ok xs (leaf location n) o = (o, tt)
 from-ok xs (leaf revision n) o = (o, tt)
 from-ok xs (lambda x A e) o = let (f, t) = from-ok (x ∷ xs) e (o .1) in ((o .0, f), t)
 from-ok xs (one o′ e) o = from-ok xs e o
-from-ok xs (two o′ a b) o = let (f, t) = from-ok xs a (o .0) in let (g, u) = from-ok xs b (o .1) in ((f, g), T-both (closedIn xs a) (closedIn xs b) t u)
+from-ok xs (two o′ a b) o =
+    let (f, t) = from-ok xs a (o .0) in
+    let (g, u) = from-ok xs b (o .1) in ((f, g), T-both (closedIn xs a) (closedIn xs b) t u)
 from-ok xs (if a b c) o =
     let (f, t) = from-ok xs a (o .0) in
     let (g, u) = from-ok xs b (o .1) in
@@ -102,7 +112,8 @@ nil-inside : (xs : List ℕ) → Inside [] xs
 unfolding member
 nil-inside xs n t = absurd t
 
-ok-subst : (x : ℕ) (v : Expression) → Ok [] v → (e : Expression) (xs zs : List ℕ) → ((n : ℕ) → T (member n zs) → (n ≡ x) ⊎ T (member n xs)) → Ok zs e → Ok xs (substituted x v e)
+ok-subst : (x : ℕ) (v : Expression) → Ok [] v → (e : Expression) (xs zs : List ℕ)
+    → ((n : ℕ) → T (member n zs) → (n ≡ x) ⊎ T (member n xs)) → Ok zs e → Ok xs (substituted x v e)
 unfolding Ok substituted
 ok-subst x v ov (constant c) xs zs i o = tt
 ok-subst x v ov (leaf number n) xs zs i o = o
@@ -114,7 +125,8 @@ ok-subst x v ov (leaf variable n) xs zs i o = go (eqb n x) refl (i n (o .0))
     go false p (inr t) = (t, o .1)
 ok-subst x v ov (leaf location n) xs zs i o = o
 ok-subst x v ov (leaf revision n) xs zs i o = o
-ok-subst x v ov (lambda y A e) xs zs i o = (o .0, go (eqb y x) refl (ok-subst x v ov e (y ∷ xs) (y ∷ zs) (λ n t. deep n (member-cons n y zs t)) (o .1)))
+ok-subst x v ov (lambda y A e) xs zs i o =
+    (o .0, go (eqb y x) refl (ok-subst x v ov e (y ∷ xs) (y ∷ zs) (λ n t. deep n (member-cons n y zs t)) (o .1)))
   where
     deep : (n : ℕ) → (n ≡ y) ⊎ T (member n zs) → (n ≡ x) ⊎ T (member n (y ∷ xs))
     deep n (inl e) = inr (member-here n y xs e)
@@ -136,7 +148,8 @@ ok-subst x v ov (lambda y A e) xs zs i o = (o .0, go (eqb y x) refl (ok-subst x 
     go false p h = h
 ok-subst x v ov (one o′ e) xs zs i o = ok-subst x v ov e xs zs i o
 ok-subst x v ov (two o′ a b) xs zs i o = (ok-subst x v ov a xs zs i (o .0), ok-subst x v ov b xs zs i (o .1))
-ok-subst x v ov (if a b c) xs zs i o = (ok-subst x v ov a xs zs i (o .0), ok-subst x v ov b xs zs i (o .1), ok-subst x v ov c xs zs i (o .2))
+ok-subst x v ov (if a b c) xs zs i o =
+    (ok-subst x v ov a xs zs i (o .0), ok-subst x v ov b xs zs i (o .1), ok-subst x v ov c xs zs i (o .2))
 
 ok-in : (E : Context) (e : Expression) → Ok [] (plug E e) → Ok [] e
 unfolding Ok
@@ -229,7 +242,16 @@ pub valid-v : (s : State) → Valid s → StateV s
 valid-v s v =
     record {
       up = listed-rising ValidTask 63 s 0 (v .tasks);
-      all = λ r L h. let (x, y, o) = listed-get ValidTask 63 s 0 r L (v .tasks) h in (y, record { snapshot = store-v (L .snapshot) (o .snapshot); local = store-v (L .local) (o .local); expression = to-ok [] (L .expression) (o .expression .0) (o .expression .1) });
+      all =
+          λ r L h. let (x, y, o) =
+          listed-get ValidTask 63 s 0 r L (v .tasks) h in (
+            y,
+            record {
+              snapshot = store-v (L .snapshot) (o .snapshot);
+              local = store-v (L .local) (o .local);
+              expression = to-ok [] (L .expression) (o .expression .0) (o .expression .1);
+            },
+          );
     }
 
 pub v-valid : (s : State) → StateV s → length (image s) ≤ 8192 → Valid s
@@ -281,39 +303,72 @@ module _ (s : State) (sv : StateV s) (r : ℕ) (L : Task) (at : get r s ≡ some
   in-site : (R : Redex) → plug E (expressionAt R) ≡ L .expression → Ok [] (expressionAt R)
   in-site R site = ok-in E (expressionAt R) (along (Ok []) (sym site) (here-v .expression))
 
-  becomes : (t : Map Cell) (c : Expression) (R : Redex) → plug E (expressionAt R) ≡ L .expression → StoreV t → Ok [] c → StateV (put r (become L t (plug E c)) s)
-  becomes t c R site st oc = put-state r (become L t (plug E c)) s (sv .all r L at .0) (record { snapshot = here-v .snapshot; local = st; expression = ok-put E (expressionAt R) c (along (Ok []) (sym site) (here-v .expression)) oc }) sv
+  becomes : (t : Map Cell) (c : Expression) (R : Redex) → plug E (expressionAt R) ≡ L .expression → StoreV t → Ok [] c
+      → StateV (put r (become L t (plug E c)) s)
+  becomes t c R site st oc =
+      put-state r (become L t (plug E c)) s (sv .all r L at .0)
+      (record {
+        snapshot = here-v .snapshot;
+        local = st;
+        expression = ok-put E (expressionAt R) c
+            (along (Ok []) (sym site) (here-v .expression)) oc;
+      }) sv
 
   view-v : StoreV (view L)
   view-v = over-v (L .snapshot) (L .local) (here-v .snapshot) (here-v .local)
 
-  pub rule-valid : (R : Redex) (u : State) → plug E (expressionAt R) ≡ L .expression → Held R → Rule r s L E R u → StateV u
+  pub rule-valid : (R : Redex) (u : State) → plug E (expressionAt R) ≡ L .expression → Held R → Rule r s L E R u
+      → StateV u
   unfolding Ok
-  rule-valid R u site held (byApply f v) = let k = in-site (applying f v) site in becomes (L .local) _ (applying f v) site (here-v .local) (ok-subst (f .variable) v (k .1) (f .body) [] (f .variable ∷ []) (λ n t. member-cons n (f .variable) [] t) (k .0 .1))
-  rule-valid R u site held (byIf t b c) = let k = in-site (choosing t b c) site in becomes (L .local) _ (choosing t b c) site (here-v .local) (go t (k .1) (k .2))
+  rule-valid R u site held (byApply f v) =
+      let k = in-site (applying f v) site in
+      becomes (L .local) _ (applying f v) site (here-v .local)
+      (ok-subst (f .variable) v (k .1) (f .body) [] (f .variable ∷ []) (λ n t. member-cons n (f .variable) [] t)
+      (k .0 .1))
+  rule-valid R u site held (byIf t b c) =
+      let k = in-site (choosing t b c) site in
+      becomes (L .local) _ (choosing t b c) site (here-v .local) (go t (k .1) (k .2))
     where
       go : (t : Bool) → Ok [] b → Ok [] c → Ok [] (choose t b c)
       go true x y = x
       go false x y = y
-  rule-valid R u site held (byArithmetic o m n) = becomes (L .local) _ (calculating o m n) site (here-v .local) (ok-calc o m n)
+  rule-valid R u site held (byArithmetic o m n) =
+      becomes (L .local) _ (calculating o m n) site (here-v .local) (ok-calc o m n)
   rule-valid R u site held (byRef v l h) =
       let x = smallest-is 256 0 (takenLocations s) h .high in
-      becomes (put l v (L .local)) (leaf location l) (making v) site (put-v l v (L .local) (omega arith, in-site (making v) site, held) (here-v .local)) (omega arith)
-  rule-valid R u site held (byRead l v h) = becomes (L .local) (content v) (reading l) site (here-v .local) (view-v .all l v h .1)
+      becomes (put l v (L .local)) (leaf location l) (making v) site
+      (put-v l v (L .local) (omega arith, in-site (making v) site, held) (here-v .local)) (omega arith)
+  rule-valid R u site held (byRead l v h) =
+      becomes (L .local) (content v) (reading l) site (here-v .local) (view-v .all l v h .1)
   rule-valid R u site held (byAssign l v d h) =
       let (c, w) = written-at (view L) l v d h in
       let e = sym (written-is (view L) l v d h) in
-      becomes (put l d (L .local)) (constant unit) (assigning l v) site (put-v l d (L .local) (view-v .all l c w .0, along (Ok []) e (in-site (assigning l v) site .1), along (λ x. T (value x)) e held) (here-v .local)) tt
+      becomes (put l d (L .local)) (constant unit) (assigning l v) site
+      (put-v l d (L .local)
+      (view-v .all l c w .0, along (Ok []) e (in-site (assigning l v) site .1), along (λ x. T (value x)) e held)
+      (here-v .local)) tt
   rule-valid R u site held (byFork e r′ h) =
       let x = smallest-is 64 0 (takenRevisions s) h .high in
-      put-state r′ (record { snapshot = view L; local = []; expression = e }) (put r (become L (L .local) (plug E (leaf revision r′))) s) (omega arith)
-      (record { snapshot = view-v; local = record { up = tt; all = λ l v k. none≢some (sym (get-none l) ∙ k) }; expression = in-site (forking e) site })
+      put-state r′ (record { snapshot = view L; local = []; expression = e })
+      (put r (become L (L .local) (plug E (leaf revision r′))) s) (omega arith)
+      (record {
+        snapshot = view-v;
+        local = record { up = tt; all = λ l v k. none≢some (sym (get-none l) ∙ k) };
+        expression = in-site (forking e) site;
+      })
       (becomes (L .local) (leaf revision r′) (forking e) site (here-v .local) (omega arith))
   rule-valid R u site held (byJoin r′ J h v) =
       put-state r (become L (absorbed L J) (plug E (constant unit))) (remove r′ s) (sv .all r L at .0)
-      (record { snapshot = here-v .snapshot; local = absorb-v L J (here-v .local) (sv .all r′ J h .1 .local); expression = ok-put E (expressionAt (joining r′)) (constant unit) (along (Ok []) (sym site) (here-v .expression)) tt })
+      (record {
+        snapshot = here-v .snapshot;
+        local = absorb-v L J (here-v .local) (sv .all r′ J h .1 .local);
+        expression
+            = ok-put E (expressionAt (joining r′)) (constant unit) (along (Ok []) (sym site) (here-v .expression)) tt;
+      })
       (remove-state r′ s sv)
   rule-valid R u site held (byJoinGone r′ h) = record { up = tt; all = λ q K g. none≢some (sym (get-none q) ∙ g) }
 
 pub step-keeps-valid : (r : ℕ) (s u : State) → Valid s → Step r s u → length (image u) ≤ 8192 → Valid u
-step-keeps-valid r s u v t h = v-valid u (rule-valid s (valid-v s v) r (t .task) (t .live) (t .context) (t .redex) u (decomposed-plug (t .place)) (decomposed-held (t .place)) (t .rule)) h
+step-keeps-valid r s u v t h =
+    v-valid u (rule-valid s (valid-v s v) r (t .task) (t .live) (t .context) (t .redex) u (decomposed-plug (t .place))
+    (decomposed-held (t .place)) (t .rule)) h

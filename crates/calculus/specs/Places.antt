@@ -1,11 +1,13 @@
--- The place of work (01, "One step": "found from the top"; 001, decompose): as a relation, and as the search that finds it.
+-- The place of work (01, "One step": "found from the top"; 001, decompose): as a relation, and as the search that
+-- finds it.
 use Prim.Native.Nat.{ℕ}
 use mathlib.Core.Path.{_≡_}
 use mathlib.Core.List.{List, [], _∷_}
 use mathlib.Core.Option.{Option, none, some}
 use mathlib.Core.Bool.{Bool, true, false, cond}
 use lib.Dec.{T}
-use Rattle.calculus.specs.Expressions.{number, location, One, ref, read, fork, join, Two, apply, assign, arithmetic}
+use Rattle.calculus.specs.Expressions.{number, location, One, ref, read, fork, join, Two, apply, assign}
+use Rattle.calculus.specs.Expressions.{arithmetic}
 use Rattle.calculus.specs.Expressions.{Expression, constant, leaf, lambda, one, two, if}
 use Rattle.calculus.specs.Formed.{value}
 use Rattle.calculus.specs.Redexes.{Redex, asLeaf, redexOne, redexTwo, redexIf, redex}
@@ -35,7 +37,8 @@ abbrev pub present : Option ℕ → Bool
 present none = false
 present (some n) = true
 
--- "apply enters the second child" after a value, "assign only after a location; add, subtract and less only after a number"
+-- "apply enters the second child" after a value, "assign only after a location; add, subtract and less only after a
+-- number"
 abbrev pub entersSecond : Two → Expression → Bool
 entersSecond apply a = value a
 entersSecond assign a = present (asLeaf location a)

@@ -1,4 +1,5 @@
--- Reading words back as trees (01, "Expressions as words"): which words are one well-formed type, one well-formed expression.
+-- Reading words back as trees (01, "Expressions as words"): which words are one well-formed type, one well-formed
+-- expression.
 use Prim.Native.Nat.{ℕ, zero, suc, _+_, _-_}
 use mathlib.Core.List.{List, [], _∷_}
 use mathlib.Core.Option.{Option, none, some}

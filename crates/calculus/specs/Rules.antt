@@ -23,7 +23,8 @@ become me m e = record { snapshot = me .snapshot; local = m; expression = e }
 abbrev pub child : Task → Expression → Task
 child me e = record { snapshot = view me; local = []; expression = e }
 
--- `Rule r s me E R t`: task `me`, which is r in the state s, works off its redex R in the context E, and t is the state after
+-- `Rule r s me E R t`: task `me`, which is r in the state s, works off its redex R in the context E, and t is the
+-- state after
 pub data Rule (r : ℕ) (s : State) (me : Task) (E : Context) : Redex → State → Type 0 where
   -- the body with the value for each free occurrence of x
   byApply : (f : Lambda) (v : Expression)

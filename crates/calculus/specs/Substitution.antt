@@ -1,4 +1,5 @@
--- Substitution (01, "One step", apply): a value for each free occurrence; an inner lambda of the same x shields its body.
+-- Substitution (01, "One step", apply): a value for each free occurrence; an inner lambda of the same x shields its
+-- body.
 use Prim.Native.Nat.{ℕ}
 use mathlib.Core.Bool.{cond}
 use lib.Dec.{eqb}

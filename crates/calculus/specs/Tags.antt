@@ -1,4 +1,5 @@
--- The table of tags (01, "Expressions as words"): a tag is a place in it; what follows a tag is its own word, types, children.
+-- The table of tags (01, "Expressions as words"): a tag is a place in it; what follows a tag is its own word, types,
+-- children.
 use Prim.Native.Nat.{ℕ}
 use mathlib.Core.List.{List, [], _∷_}
 use mathlib.Core.Bool.{Bool, true, false}

@@ -1,4 +1,5 @@
--- The check (01, "The check"): the typing rules as a relation, one rule a line, and the same as a function; types of states.
+-- The check (01, "The check"): the typing rules as a relation, one rule a line, and the same as a function; types of
+-- states.
 use Prim.Native.Nat.{ℕ}
 use mathlib.Core.Path.{_≡_}
 use mathlib.Core.Option.{Option, none, some}

@@ -392,6 +392,7 @@ module _ (s : List ℕ) (snapshot local l n : ℕ) (ni : n ≡ getD s local 0) (
         record {
           answer = λ me v hs ho.
               let h = headed hs in
-              let g = miss-cell s (snapshot + 1) m l b (me .snapshot) 0 kb (v .snapshot) (h .more) (sym (mi ∙ h .is)) y in
+              let g = miss-cell s (snapshot + 1) m l b (me .snapshot) 0 kb (v .snapshot) (h .more) (sym (mi ∙ h .is)) y
+              in
               subst (λ (o : Option Cell). CellAt s o No) (sym (not-local me v ho ∙ g)) tt;
         }

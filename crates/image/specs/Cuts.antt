@@ -1,4 +1,5 @@
--- Maps cut at a key; what the functions on the words of stores and sections promise of every valid one that stands there.
+-- Maps cut at a key; what the functions on the words of stores and sections promise of every valid one that stands
+-- there.
 use Prim.Native.Nat.{ℕ, _+_, _≤_}
 use mathlib.Core.Path.{_≡_}
 use mathlib.Core.Bool.{Bool, false, cond}

@@ -43,11 +43,13 @@ pub work-arithmetic : {s : List ℕ} {site : Site} (tag : ℕ) → tag ≡ getD 
     → Working (getD s (site .place) 0) s site → Working tag s site
 work-arithmetic {s} {site} tag i w = subst (λ t. Working t s site) (sym i) w
 
-pub acts-at : {s : List ℕ} {site : Site} {o : List ℕ} {a : Act} {o′ : List ℕ} (tag k : ℕ) → tag ≡ getD s (site .place) 0 → tag ≡ k
+pub acts-at : {s : List ℕ} {site : Site} {o : List ℕ} {a : Act} {o′ : List ℕ} (tag k : ℕ) → tag ≡ getD s (site .place) 0
+    → tag ≡ k
     → Acts k s site o a o′ → Acts (getD s (site .place) 0) s site o a o′
 acts-at {s} {site} {o} {a} {o′} tag k i e w = subst (λ t. Acts t s site o a o′) (sym e ∙ i) w
 
-pub acts-arithmetic : {s : List ℕ} {site : Site} {o : List ℕ} {a : Act} {o′ : List ℕ} (tag : ℕ) → tag ≡ getD s (site .place) 0
+pub acts-arithmetic : {s : List ℕ} {site : Site} {o : List ℕ} {a : Act} {o′ : List ℕ} (tag : ℕ)
+    → tag ≡ getD s (site .place) 0
     → Acts tag s site o a o′ → Acts (getD s (site .place) 0) s site o a o′
 acts-arithmetic {s} {site} {o} {a} {o′} tag i w = subst (λ t. Acts t s site o a o′) i w
 
@@ -55,7 +57,8 @@ acts-arithmetic {s} {site} {o} {a} {o′} tag i w = subst (λ t. Acts t s site o
 pub record Low (tag : ℕ) : Type 0 where
   pub low : 8 ≤ tag
 
-pub work-low : {s : List ℕ} {site : Site} (tag : ℕ) → tag ≡ getD s (site .place) 0 → Working (getD s (site .place) 0) s site → Low tag
+pub work-low : {s : List ℕ} {site : Site} (tag : ℕ) → tag ≡ getD s (site .place) 0
+    → Working (getD s (site .place) 0) s site → Low tag
 work-low {s} {site} tag i k =
     let l = low-tag (k .redex) (redex-stands s site (k .state) (k .me) (k .context) (k .redex) (k .work)) in
     record { low = subst (λ t. 8 ≤ t) (sym i) l }
@@ -72,13 +75,18 @@ lives : (s : List ℕ) (st : State) (r at : ℕ) → Valid st → s ≡ image st
 unfolding image
 lives s st r at v e h =
     let H = hit r st (h .hit) in
-    let sp : st ≡ before r st ++ ((r, H .here) ∷ beyond r st) = before-onward r st ∙ ap (λ m. before r st ++ m) (H .onward) in
+    let sp : st ≡ before r st ++ ((r, H .here) ∷ beyond r st)
+    = before-onward r st ∙ ap (λ m. before r st ++ m) (H .onward) in
     let t = headed (stands-all s (length st ∷ entries taskWords st) e) .more in
-    let u : entries taskWords st ≡ entries taskWords (before r st) ++ (r ∷ (taskWords (H .here) ++ entries taskWords (beyond r st)))
+    let u : entries taskWords st ≡ entries taskWords (before r st) ++
+    (r ∷ (taskWords (H .here) ++ entries taskWords (beyond r st)))
     = ap (entries taskWords) sp ∙ entries-append taskWords (before r st) _ in
     let at-r : Stands s at (r ∷ (taskWords (H .here) ++ entries taskWords (beyond r st)))
-    = stands-at at (let z = h .here in omega arith) (stands-right (entries taskWords (before r st)) _ (stands-as u t)) in
-    let (p, q, ok, x, y) = listed-here ValidTask 63 (before r st) 0 r (H .here) (beyond r st) (subst (Listed ValidTask 63 0) sp (v .tasks)) in
+    =
+    stands-at at (let z = h .here in omega arith) (stands-right (entries taskWords (before r st)) _ (stands-as u t))
+    in
+    let (p, q, ok, x, y) = listed-here ValidTask 63 (before r st) 0 r (H .here) (beyond r st)
+    (subst (Listed ValidTask 63 0) sp (v .tasks)) in
     record {
       me = H .here;
       live = H .get;
@@ -87,16 +95,20 @@ lives s st r at v e h =
       valid = ok;
     }
 
-module _ (s : List ℕ) (r at : ℕ) (c : Parts) (parts : PartsAt s (at + 1) c) (q : Spot) (found : Placed s (c .expression) q) (o : List ℕ) where
+module _ (s : List ℕ) (r at : ℕ) (c : Parts) (parts : PartsAt s (at + 1) c) (q : Spot)
+    (found : Placed s (c .expression) q) (o : List ℕ) where
   -- what the search finds in r's expression, by the place there is
-  spot-is : (st : State) (v : Valid st) (e : s ≡ image st) (h : Section st r at) → q ≡ spotOf (c .expression) (place (lives s st r at v e h .me .expression))
+  spot-is : (st : State) (v : Valid st) (e : s ≡ image st) (h : Section st r at)
+      → q ≡ spotOf (c .expression) (place (lives s st r at v e h .me .expression))
   unfolding taskWords
   spot-is st v e h =
       let l = lives s st r at v e h in
       let k = parts .cut (l .me) (l .valid) (l .stands) in
-      let t = stands-right (counted cellWords (l .me .snapshot)) (counted cellWords (l .me .local) ++ words (l .me .expression)) (l .stands) in
+      let t = stands-right (counted cellWords (l .me .snapshot))
+      (counted cellWords (l .me .local) ++ words (l .me .expression)) (l .stands) in
       let u = stands-right (counted cellWords (l .me .local)) (words (l .me .expression)) t in
-      found .answer (l .me .expression) (l .valid .expression .0) (stands-at (c .expression) (let a = k .local in let b = k .expression in omega arith) u)
+      found .answer (l .me .expression) (l .valid .expression .0)
+      (stands-at (c .expression) (let a = k .local in let b = k .expression in omega arith) u)
 
   step-is : (st : State) (v : Valid st) (e : s ≡ image st) (h : Section st r at)
       → step r st ≡ stepAt r st (lives s st r at v e h .me) (place (lives s st r at v e h .me .expression))
@@ -104,19 +116,42 @@ module _ (s : List ℕ) (r at : ℕ) (c : Parts) (parts : PartsAt s (at + 1) c) 
   step-is st v e h = ap (stepOf r st) (lives s st r at v e h .live)
 
   pub step-value : q ≡ Value → StepsAt s r at o (No 2) o
-  step-value d = record { acts = λ st v e h. subst (λ x. Acted x o (No 2) o) (sym (step-is st v e h)) (go st v e h (place (lives s st r at v e h .me .expression)) refl) }
+  step-value d =
+      record {
+        acts = λ st v e h. subst (λ x. Acted x o (No 2) o) (sym (step-is st v e h))
+            (go st v e h (place (lives s st r at v e h .me .expression)) refl);
+      }
     where
-      go : (st : State) (v : Valid st) (e : s ≡ image st) (h : Section st r at) (p : Place) → place (lives s st r at v e h .me .expression) ≡ p → Acted (stepAt r st (lives s st r at v e h .me) p) o (No 2) o
+      go : (st : State) (v : Valid st) (e : s ≡ image st) (h : Section st r at) (p : Place)
+          → place (lives s st r at v e h .me .expression) ≡ p
+          → Acted (stepAt r st (lives s st r at v e h .me) p) o (No 2) o
       go st v e h isValue i = (refl, refl)
-      go st v e h (worksAt E R) i = let z : Value ≡ RedexAt (c .expression + length (prefix E)) = sym d ∙ spot-is st v e h ∙ ap (spotOf (c .expression)) i in absurd (let y : _≡_ {A = ℕ} 0 1 = cc in omega arith)
-      go st v e h (stuckAt E x) i = let z : Value ≡ StuckAt (c .expression + length (prefix E)) = sym d ∙ spot-is st v e h ∙ ap (spotOf (c .expression)) i in absurd (let y : _≡_ {A = ℕ} 0 1 = cc in omega arith)
+      go st v e h (worksAt E R) i =
+          let z : Value ≡ RedexAt (c .expression + length (prefix E))
+          = sym d ∙ spot-is st v e h ∙ ap (spotOf (c .expression)) i in
+          absurd (let y : _≡_ {A = ℕ} 0 1 = cc in omega arith)
+      go st v e h (stuckAt E x) i =
+          let z : Value ≡ StuckAt (c .expression + length (prefix E))
+          = sym d ∙ spot-is st v e h ∙ ap (spotOf (c .expression)) i in
+          absurd (let y : _≡_ {A = ℕ} 0 1 = cc in omega arith)
 
   pub step-stuck : (p : ℕ) → q ≡ StuckAt p → StepsAt s r at o (No 4) o
-  step-stuck p d = record { acts = λ st v e h. subst (λ x. Acted x o (No 4) o) (sym (step-is st v e h)) (go st v e h (place (lives s st r at v e h .me .expression)) refl) }
+  step-stuck p d =
+      record {
+        acts = λ st v e h. subst (λ x. Acted x o (No 4) o) (sym (step-is st v e h))
+            (go st v e h (place (lives s st r at v e h .me .expression)) refl);
+      }
     where
-      go : (st : State) (v : Valid st) (e : s ≡ image st) (h : Section st r at) (k : Place) → place (lives s st r at v e h .me .expression) ≡ k → Acted (stepAt r st (lives s st r at v e h .me) k) o (No 4) o
-      go st v e h isValue i = let z : StuckAt p ≡ Value = sym d ∙ spot-is st v e h ∙ ap (spotOf (c .expression)) i in absurd (let y : _≡_ {A = ℕ} 0 1 = cc in omega arith)
-      go st v e h (worksAt E R) i = let z : StuckAt p ≡ RedexAt (c .expression + length (prefix E)) = sym d ∙ spot-is st v e h ∙ ap (spotOf (c .expression)) i in absurd (let y : _≡_ {A = ℕ} 0 1 = cc in omega arith)
+      go : (st : State) (v : Valid st) (e : s ≡ image st) (h : Section st r at) (k : Place)
+          → place (lives s st r at v e h .me .expression) ≡ k
+          → Acted (stepAt r st (lives s st r at v e h .me) k) o (No 4) o
+      go st v e h isValue i =
+          let z : StuckAt p ≡ Value = sym d ∙ spot-is st v e h ∙ ap (spotOf (c .expression)) i in
+          absurd (let y : _≡_ {A = ℕ} 0 1 = cc in omega arith)
+      go st v e h (worksAt E R) i =
+          let z : StuckAt p ≡ RedexAt (c .expression + length (prefix E))
+          = sym d ∙ spot-is st v e h ∙ ap (spotOf (c .expression)) i in
+          absurd (let y : _≡_ {A = ℕ} 0 1 = cc in omega arith)
       go st v e h (stuckAt E x) i = (refl, refl)
 
   module _ (p : ℕ) (d : q ≡ RedexAt p) where
@@ -137,12 +172,18 @@ module _ (s : List ℕ) (r at : ℕ) (c : Parts) (parts : PartsAt s (at + 1) c) 
         l = lives s st r at v e h
 
         go : (k : Place) → place (lives s st r at v e h .me .expression) ≡ k → At st (lives s st r at v e h .me)
-        go isValue i = let z : RedexAt p ≡ Value = sym d ∙ spot-is st v e h ∙ ap (spotOf (c .expression)) i in absurd (let y : _≡_ {A = ℕ} 0 1 = cc in omega arith)
-        go (stuckAt E x) i = let z : RedexAt p ≡ StuckAt (c .expression + length (prefix E)) = sym d ∙ spot-is st v e h ∙ ap (spotOf (c .expression)) i in absurd (let y : _≡_ {A = ℕ} 0 1 = cc in omega arith)
+        go isValue i =
+            let z : RedexAt p ≡ Value = sym d ∙ spot-is st v e h ∙ ap (spotOf (c .expression)) i in
+            absurd (let y : _≡_ {A = ℕ} 0 1 = cc in omega arith)
+        go (stuckAt E x) i =
+            let z : RedexAt p ≡ StuckAt (c .expression + length (prefix E))
+            = sym d ∙ spot-is st v e h ∙ ap (spotOf (c .expression)) i in
+            absurd (let y : _≡_ {A = ℕ} 0 1 = cc in omega arith)
         go (worksAt E R) i =
             let l = lives s st r at v e h in
             let k = parts .cut (l .me) (l .valid) (l .stands) in
-            let z : RedexAt p ≡ RedexAt (c .expression + length (prefix E)) = sym d ∙ spot-is st v e h ∙ ap (spotOf (c .expression)) i in
+            let z : RedexAt p ≡ RedexAt (c .expression + length (prefix E))
+            = sym d ∙ spot-is st v e h ∙ ap (spotOf (c .expression)) i in
             record {
               context = E;
               redex = R;
@@ -177,10 +218,12 @@ module _ (s : List ℕ) (r at : ℕ) (c : Parts) (parts : PartsAt s (at + 1) c) 
     pub step-redex : (a : Act) (o′ : List ℕ) → Acts (getD s p 0) s site o a o′ → StepsAt s r at o a o′
     step-redex a o′ w = record { acts = λ st v e h. go st v e h (at-work st v e h) }
       where
-        go : (st : State) (v : Valid st) (e : s ≡ image st) (h : Section st r at) → At st (lives s st r at v e h .me) → Acted (step r st) o a o′
+        go : (st : State) (v : Valid st) (e : s ≡ image st) (h : Section st r at) → At st (lives s st r at v e h .me)
+            → Acted (step r st) o a o′
         go st v e h k =
             let me = lives s st r at v e h .me in
-            subst (λ x. Acted x o a o′) (sym (step-is st v e h ∙ ap (stepAt r st me) (k .place))) (w .acts st me (k .context) (k .redex) (k .work) refl)
+            subst (λ x. Acted x o a o′) (sym (step-is st v e h ∙ ap (stepAt r st me) (k .place)))
+            (w .acts st me (k .context) (k .redex) (k .work) refl)
 
 -- r's section in the image, or none
 module _ (s : List ℕ) (r : ℕ) (k : Seek) (f : Finds s r k) (o : List ℕ) where
@@ -208,7 +251,8 @@ module _ (s : List ℕ) (r : ℕ) (k : Seek) (f : Finds s r k) (o : List ℕ) wh
       record {
         acts = λ st v i.
             let e = f .answer st v i in
-            let n = miss-get r st (listed-rising ValidTask 63 st 0 (v .tasks)) (sym (ap (λ (k : Seek). k .hit) e) ∙ t) in
+            let n = miss-get r st (listed-rising ValidTask 63 st 0 (v .tasks)) (sym (ap (λ (k : Seek). k .hit) e) ∙ t)
+            in
             subst (λ (m : Option Task). Acted (stepOf r st m) o (No 6) o) (sym n) (refl, refl);
       }
 
@@ -222,7 +266,8 @@ pub record AtBound (s : List ℕ) (at : ℕ) : Type 0 where
 
 pub at-bound : {s : List ℕ} {r at : ℕ} → LiveAt s r at → AtBound s at
 unfolding taskWords
-at-bound {s} {r} {at} k = record { inside = headed (lives s (k .state) r at (k .valid) (k .is) (k .section) .stands) .inside }
+at-bound {s} {r} {at} k =
+    record { inside = headed (lives s (k .state) r at (k .valid) (k .is) (k .section) .stands) .inside }
 
 -- so what is none of the seven others is arithmetic
 to-12 : (t : ℕ) → 8 ≤ t → (t ≡ 8 → ⊥) → (t ≡ 9 → ⊥) → (t ≡ 10 → ⊥) → (t ≡ 11 → ⊥) → 12 ≤ t
@@ -231,7 +276,8 @@ to-12 t l a b c d = omega arith
 to-15 : (t : ℕ) → 12 ≤ t → (t ≡ 12 → ⊥) → (t ≡ 13 → ⊥) → (t ≡ 14 → ⊥) → 15 ≤ t
 to-15 t l a b c = omega arith
 
-pub arithmetic-left : {s : List ℕ} {site : Site} (tag : ℕ) → tag ≡ getD s (site .place) 0 → Working (getD s (site .place) 0) s site
+pub arithmetic-left : {s : List ℕ} {site : Site} (tag : ℕ) → tag ≡ getD s (site .place) 0
+    → Working (getD s (site .place) 0) s site
     → (tag ≡ 8 → ⊥) → (tag ≡ 9 → ⊥) → (tag ≡ 10 → ⊥) → (tag ≡ 11 → ⊥) → (tag ≡ 12 → ⊥) → (tag ≡ 13 → ⊥) → (tag ≡ 14 → ⊥)
     → (15 ≤ tag) × Working tag s site
 arithmetic-left tag i k a b c d e f g =

@@ -56,8 +56,10 @@ record Applied (s : List ℕ) (p x body value end : ℕ) (f : Lambda) (v : Expre
   pub given : part s value end ≡ words v
   pub to : end ≡ p + length (words (expressionAt (applying f v)))
 
-applied : (s : List ℕ) (p x body value end : ℕ) (f : Lambda) (v : Expression) → Formed (expressionAt (applying f v)) → x ≡ getD s (p + 2) 0
-    → TypeEnds s (p + 3) body → EndsAt s body value → EndsAt s value end → Stands s p (words (expressionAt (applying f v)))
+applied : (s : List ℕ) (p x body value end : ℕ) (f : Lambda) (v : Expression) → Formed (expressionAt (applying f v))
+    → x ≡ getD s (p + 2) 0
+    → TypeEnds s (p + 3) body → EndsAt s body value → EndsAt s value end
+    → Stands s p (words (expressionAt (applying f v)))
     → Applied s p x body value end f v
 unfolding words Formed
 applied s p x body value end f v g xi t e₁ e₂ h =
@@ -84,15 +86,24 @@ applied s p x body value end f v g xi t e₁ e₂ h =
       to = omega arith;
     }
 
-pub apply-done : (s : List ℕ) (site : Site) (x body value end : ℕ) → x ≡ getD s (site .place + 2) 0 → TypeEnds s (site .place + 3) body
-    → EndsAt s body value → EndsAt s value end → (o o₁ o₂ o₃ : List ℕ) (y z r : ℕ) → Wrote (part s 0 (site .place)) o 0 y o₁
+pub apply-done : (s : List ℕ) (site : Site) (x body value end : ℕ) → x ≡ getD s (site .place + 2) 0
+    → TypeEnds s (site .place + 3) body
+    → EndsAt s body value → EndsAt s value end → (o o₁ o₂ o₃ : List ℕ) (y z r : ℕ)
+    → Wrote (part s 0 (site .place)) o 0 y o₁
     → Substitutes s body x value end o₁ y z o₂ → Wrote (part s end (length s)) o₂ z r o₃ → Acts 8 s site o (To r) o₃
 apply-done s site x body value end xi t e₁ e₂ o o₁ o₂ o₃ y z r w₁ w₂ w₃ =
     record { acts = λ st me E R w g. go st me E R w (redex-is R (twoTag apply) (redex-stands s site st me E R w) g) }
   where
-    go : (st : State) (me : Task) (E : Context) (R : Redex) → Work s site st me E R → Is (twoTag apply) R → Acted (act (site .revision) st me E R) o (To r) o₃
+    go : (st : State) (me : Task) (E : Context) (R : Redex) → Work s site st me E R → Is (twoTag apply) R
+        → Acted (act (site .revision) st me E R) o (To r) o₃
     go st me E R w (isApplying f v) =
-        let a = applied s (site .place) x body value end f v (redex-formed w) xi t e₁ e₂ (redex-stands s site st me E (applying f v) w) in
+        let a = applied s (site .place) x body value end f v (redex-formed w) xi t e₁ e₂
+        (redex-stands s site st me E (applying f v) w) in
         let im = replaced-image s site st me E (applying f v) w (substituted (f .variable) v (f .body)) end (a .to) in
-        let k = w₂ .wrote (f .body) v (a .formed) (a .there) (a .given) in
-        (r, refl, wrote-as (ap (λ i. part s 0 (site .place) ++ (words (substituted i v (f .body)) ++ part s end (length s))) (a .variable) ∙ sym im) (then w₁ (then k w₃)))
+        let k = w₂ .wrote (f .body) v (a .formed) (a .there) (a .given) in (
+          r,
+          refl,
+          wrote-as (ap
+              (λ i. part s 0 (site .place) ++ (words (substituted i v (f .body)) ++ part s end (length s))) (a .variable) ∙
+              sym im) (then w₁ (then k w₃)),
+        )

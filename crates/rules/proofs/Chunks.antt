@@ -87,7 +87,8 @@ module _ (s : List ℕ) (site : Site) (st : State) (me : Task) (E : Context) (R 
       w .is ∙ ap (λ l. length st ∷ l) (ap (entries taskWords) (w .split) ∙ entries-append taskWords (w .lower) _)
 
   around : s ≡ A ++ (taskWords me ++ B)
-  around = image-split ∙ ap (λ l. length st ∷ l) (sym (append-assoc (entries taskWords (w .lower)) (site .revision ∷ []) _))
+  around =
+      image-split ∙ ap (λ l. length st ∷ l) (sym (append-assoc (entries taskWords (w .lower)) (site .revision ∷ []) _))
 
   pub all : s ≡ A ++ (counted cellWords (me .snapshot) ++ C₁)
   unfolding taskWords
@@ -98,7 +99,8 @@ module _ (s : List ℕ) (site : Site) (st : State) (me : Task) (E : Context) (R 
       ∙ simp append-assoc
 
   start : site .snapshot ≡ length A
-  start = let h = w .snapshot in let l = length-append (entries taskWords (w .lower)) (site .revision ∷ []) in omega arith
+  start =
+      let h = w .snapshot in let l = length-append (entries taskWords (w .lower)) (site .revision ∷ []) in omega arith
 
   at-snapshot : Stands s (site .snapshot) (counted cellWords (me .snapshot) ++ C₁)
   at-snapshot = stands-at (site .snapshot) (let h = start in omega arith) (stands-right A _ (stands-all s _ all))
@@ -209,7 +211,8 @@ module _ (s : List ℕ) (site : Site) (st : State) (me : Task) (E : Context) (R 
   pub part-rest : (e : ℕ) → e ≡ site .place + length (words (expressionAt R)) → part s e (length s) ≡ suffix E ++ B
   part-rest e i = part-stands (length s) (rest-stands e i) (let z = size in omega arith)
 
-  pub part-before : part s 0 (site .place) ≡ (A ++ counted cellWords (me .snapshot)) ++ (counted cellWords (me .local) ++ prefix E)
+  pub part-before : part s 0 (site .place) ≡ (A ++ counted cellWords (me .snapshot)) ++
+      (counted cellWords (me .local) ++ prefix E)
   part-before =
       part-stands (site .place)
       (stands-left ((A ++ counted cellWords (me .snapshot)) ++ (counted cellWords (me .local) ++ prefix E)) C₃
@@ -239,7 +242,8 @@ module _ (s : List ℕ) (site : Site) (st : State) (me : Task) (E : Context) (R 
       → image (put (site .revision) (become me (me .local) (plug E e)) st)
       ≡ part s 0 (site .place) ++ (words e ++ part s end (length s))
   replaced-image e end i =
-      next-image (me .local) e ∙ sym (ap₂ (λ a b. a ++ (words e ++ b)) part-before (part-rest end i) ∙ simp append-assoc)
+      next-image (me .local) e ∙ sym
+      (ap₂ (λ a b. a ++ (words e ++ b)) part-before (part-rest end i) ∙ simp append-assoc)
 
 -- the positions of a site lie in the words
 pub record Bounds (s : List ℕ) (site : Site) : Type 0 where

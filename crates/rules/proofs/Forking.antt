@@ -33,7 +33,8 @@ use Rattle.image.specs.Cuts.{before, onward, beyond, hits}
 use Rattle.image.specs.Fresh.{asOption, NewRevision}
 use Rattle.image.proofs.Standing.{headed, stands-left, stands-right, stands-at, stands-as}
 use Rattle.image.proofs.Seeking.{before-onward, put-cut, miss-onward, entries-append}
-use Rattle.image.proofs.Around.{put-here, put-left, put-right, before-left, before-right, hits-left, hits-right, hits-past}
+use Rattle.image.proofs.Around.{put-here, put-left, put-right, before-left, before-right, hits-left, hits-right}
+use Rattle.image.proofs.Around.{hits-past}
 use Rattle.place.specs.Search.{prefix, suffix}
 use Rattle.words.proofs.Ends.{words-long}
 use Rattle.write.specs.Cursor.{part, Wrote}
@@ -52,7 +53,8 @@ use Rattle.rules.proofs.Joining.{at-is}
 
 pub child-done : (s : List ℕ) (site : Site) (child : Child) (o₀ o₁ o₂ o₃ o₄ : List ℕ) (to w x y r : ℕ)
     → Wrote (child .revision ∷ []) o₀ to w o₁ → WroteOverlaid s (site .snapshot) (site .local) o₁ w x o₂
-    → Wrote (0 ∷ []) o₂ x y o₃ → Wrote (part s (child .from) (child .end)) o₃ y r o₄ → WroteChild s site child o₀ to r o₄
+    → Wrote (0 ∷ []) o₂ x y o₃ → Wrote (part s (child .from) (child .end)) o₃ y r o₄
+    → WroteChild s site child o₀ to r o₄
 unfolding childWords
 child-done s site child o₀ o₁ o₂ o₃ o₄ to w x y r w₁ w₂ w₃ w₄ =
     let v = then w₃ w₄ in
@@ -62,7 +64,9 @@ child-done s site child o₀ o₁ o₂ o₃ o₄ to w x y r w₁ w₂ w₃ w₄ 
     record {
       high = omega arith;
       size = omega arith;
-      wrote = λ me a. then w₁ (then (w₂ .wrote (me .snapshot) (me .local) (a .valid .snapshot) (a .valid .local) (a .snapshot) (a .local)) v);
+      wrote =
+          λ me a. then w₁ (then
+          (w₂ .wrote (me .snapshot) (me .local) (a .valid .snapshot) (a .valid .local) (a .snapshot) (a .local)) v);
     }
 
 -- the child goes before the words, after them, among them
@@ -81,7 +85,8 @@ module _ (s : List ℕ) (a b : ℕ) (child : Child) (me : Task) where
   with-among h k = rw (le-ltb (child .at) a h, le-ltb b (child .at) k) refl
 
 module _ (s : List ℕ) (a b : ℕ) (site : Site) (child : Child) (o : List ℕ) (to : ℕ) where
-  pub with-out-before : (r : ℕ) (o′ : List ℕ) → child .at < a → Wrote (part s a b) o to r o′ → WroteWith s a b site child o to r o′
+  pub with-out-before : (r : ℕ) (o′ : List ℕ) → child .at < a → Wrote (part s a b) o to r o′
+      → WroteWith s a b site child o to r o′
   with-out-before r o′ h w =
       record {
         high = wrote-size w .1;
@@ -99,7 +104,8 @@ module _ (s : List ℕ) (a b : ℕ) (site : Site) (child : Child) (o : List ℕ)
       }
 
   pub with-in : (x y r : ℕ) (o₁ o₂ o₃ : List ℕ) → a ≤ child .at → child .at ≤ b → Wrote (part s a (child .at)) o to x o₁
-      → WroteChild s site child o₁ x y o₂ → Wrote (part s (child .at) b) o₂ y r o₃ → WroteWith s a b site child o to r o₃
+      → WroteChild s site child o₁ x y o₂ → Wrote (part s (child .at) b) o₂ y r o₃
+      → WroteWith s a b site child o to r o₃
   with-in x y r o₁ o₂ o₃ h k w₁ w₂ w₃ =
       let e₁ = wrote-size w₁ .0 in
       let e₂ = w₂ .size in
@@ -201,7 +207,8 @@ module _
     put-parent = ap (put r parent) (w .split) ∙ put-here r parent Y me X (below s site st me E (forking z) w)
 
     -- the fork's body
-    body : (e : ℕ) → EndsAt s (p + 1) e → (part s (p + 1) e ≡ words z) × (e ≡ p + length (words (expressionAt (forking z))))
+    body : (e : ℕ) → EndsAt s (p + 1) e
+        → (part s (p + 1) e ≡ words z) × (e ≡ p + length (words (expressionAt (forking z))))
     unfolding words Formed
     body e ends =
         let h = headed (redex-stands s site st me E (forking z) w) in
@@ -334,7 +341,8 @@ module _
 -- the answers
 module _ (s : List ℕ) (site : Site) (n : Number) (f : NewRevision s n) (o : List ℕ) where
   pub fork-full : n ≡ number.No → Acts 13 s site o (No 7) o
-  fork-full e = record { acts = λ st me E R w g. go st me E R w (redex-is R (oneTag fork) (redex-stands s site st me E R w) g) }
+  fork-full e =
+      record { acts = λ st me E R w g. go st me E R w (redex-is R (oneTag fork) (redex-stands s site st me E R w) g) }
     where
       go : (st : State) (me : Task) (E : Context) (R : Redex) → Work s site st me E R → Is (oneTag fork) R
           → Acted (act (site .revision) st me E R) o (No 7) o

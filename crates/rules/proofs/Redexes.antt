@@ -5,7 +5,8 @@ use mathlib.Core.Bool.{Bool, true, false}
 use mathlib.Core.List.{List, [], _∷_, _++_}
 use native.Mathlib.Omega.{arith}
 use lib.ListN.{getD}
-use Rattle.calculus.specs.Expressions.{ref, read, fork, join, Arithmetic, add, subtract, less, apply, assign, arithmetic}
+use Rattle.calculus.specs.Expressions.{ref, read, fork, join, Arithmetic, add, subtract, less, apply, assign}
+use Rattle.calculus.specs.Expressions.{arithmetic}
 use Rattle.calculus.specs.Expressions.{Expression}
 use Rattle.calculus.specs.Tags.{Tag, oneTag, twoTag, ifTag, tagWord}
 use Rattle.calculus.specs.Words.{words}
@@ -52,7 +53,8 @@ tagged (calculating o m n) h =
 pub tagWord-injective : (t u : Tag) → tagWord t ≡ tagWord u → t ≡ u
 tagWord-injective t u e = some-inj (sym (tagOf-tagWord t) ∙ ap tagOf e ∙ tagOf-tagWord u)
 
-pub redex-is : {s : List ℕ} {p : ℕ} (R : Redex) (t : Tag) → Stands s p (words (expressionAt R)) → getD s p 0 ≡ tagWord t → Is t R
+pub redex-is : {s : List ℕ} {p : ℕ} (R : Redex) (t : Tag) → Stands s p (words (expressionAt R)) → getD s p 0 ≡ tagWord t
+    → Is t R
 redex-is R t h e =
     let k = tagged R h in
     subst (λ t. Is t R) (tagWord-injective (k .tag) t (sym (k .there) ∙ e)) (k .is)
@@ -63,7 +65,8 @@ pub record Calculating (s : List ℕ) (p : ℕ) (R : Redex) : Type 0 where
   pub is : Is (twoTag (arithmetic operation)) R
   pub there : getD s p 0 ≡ tagWord (twoTag (arithmetic operation))
 
-pub calculating-is : {s : List ℕ} {p : ℕ} (R : Redex) → Stands s p (words (expressionAt R)) → 15 ≤ getD s p 0 → Calculating s p R
+pub calculating-is : {s : List ℕ} {p : ℕ} (R : Redex) → Stands s p (words (expressionAt R)) → 15 ≤ getD s p 0
+    → Calculating s p R
 calculating-is {s} {p} R h l = go R (tagged R h .is) (tagged R h .there)
   where
     go : {t : Tag} (R : Redex) → Is t R → getD s p 0 ≡ tagWord t → Calculating s p R

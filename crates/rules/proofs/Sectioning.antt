@@ -18,7 +18,8 @@ use Rattle.rules.specs.declared.site.Site.{Site}
 use Rattle.rules.specs.Sections.{Finds, WroteOverlaid, but, WroteJoined}
 use Rattle.rules.proofs.Chunks.{stands-all}
 
-pub found-section : (s : List ℕ) (q n : ℕ) (k : Seek) → 0 < length s → n ≡ getD s 0 0 → Seeks taskWords ValidTask 63 s 1 n q k
+pub found-section : (s : List ℕ) (q n : ℕ) (k : Seek) → 0 < length s → n ≡ getD s 0 0
+    → Seeks taskWords ValidTask 63 s 1 n q k
     → Finds s q k
 unfolding image
 found-section s q n k l ni h =
@@ -56,7 +57,8 @@ pub but-before : (s : List ℕ) (a b from end : ℕ) → from < a → but s a b 
 unfolding but
 but-before s a b from end h = rw (lt-ltb from a h) refl
 
-pub but-among : (s : List ℕ) (a b from end : ℕ) → a ≤ from → from < b → but s a b from end ≡ part s a from ++ part s end b
+pub but-among : (s : List ℕ) (a b from end : ℕ) → a ≤ from → from < b
+    → but s a b from end ≡ part s a from ++ part s end b
 unfolding but
 but-among s a b from end h k = rw (le-ltb from a h, lt-ltb from b k) refl
 
@@ -65,7 +67,8 @@ unfolding but
 but-after s a b from end h k = rw (le-ltb from a h, le-ltb from b k) refl
 
 module _ (s : List ℕ) (a b from end : ℕ) (o : List ℕ) (to : ℕ) where
-  pub copied-before : (r : ℕ) (o′ : List ℕ) → from < a → Wrote (part s a b) o to r o′ → Wrote (but s a b from end) o to r o′
+  pub copied-before : (r : ℕ) (o′ : List ℕ) → from < a → Wrote (part s a b) o to r o′
+      → Wrote (but s a b from end) o to r o′
   copied-before r o′ h w = wrote-as (sym (but-before s a b from end h)) w
 
   pub copied-after : (r : ℕ) (o′ : List ℕ) → a ≤ from → b ≤ from → Wrote (part s a b) o to r o′
@@ -84,5 +87,6 @@ pub joined-done : (s : List ℕ) (site : Site) (from end local n : ℕ) (o₀ o�
 joined-done s site from end local n o₀ o₁ o₂ o₃ o₄ o₅ o₆ u v w x y r i w₁ w₂ w₃ w₄ w₅ w₆ =
     record {
       wrote = λ m₁ m₂ v₁ v₂ h₁ h₂.
-          then (wrote-as (ap (λ (n : ℕ). (n - 1) ∷ []) i) w₁) (then w₂ (then (w₃ .wrote m₁ m₂ v₁ v₂ h₁ h₂) (then w₄ (then w₅ w₆))));
+          then (wrote-as (ap (λ (n : ℕ). (n - 1) ∷ []) i) w₁)
+          (then w₂ (then (w₃ .wrote m₁ m₂ v₁ v₂ h₁ h₂) (then w₄ (then w₅ w₆))));
     }

@@ -44,8 +44,10 @@ put-place k a b e =
     let n = bounds k in
     record { local = n .local; expression = n .expression; place = omega arith; count = n .own; end = e .high }
 
-pub stored-done : (s : List ℕ) (site : Site) (l a b : ℕ) (o o₁ o₂ o₃ : List ℕ) (x y r : ℕ) → Wrote (part s 0 (site .local)) o 0 x o₁
-    → WrotePut s (site .local) (site .expression) l a b o₁ x y o₂ → Wrote (part s (site .expression) (site .place)) o₂ y r o₃
+pub stored-done : (s : List ℕ) (site : Site) (l a b : ℕ) (o o₁ o₂ o₃ : List ℕ) (x y r : ℕ)
+    → Wrote (part s 0 (site .local)) o 0 x o₁
+    → WrotePut s (site .local) (site .expression) l a b o₁ x y o₂
+    → Wrote (part s (site .expression) (site .place)) o₂ y r o₃
     → WroteStored s site l a b o r o₃
 stored-done s site l a b o o₁ o₂ o₃ x y r w₁ w₂ w₃ =
     let e₁ = wrote-size w₁ in
@@ -61,9 +63,11 @@ regroup : (f m g i j : List ℕ) → (f ++ (m ++ g)) ++ (i ++ j) ≡ f ++ (m ++ 
 regroup f m g i j = simp append-assoc
 
 -- the next image, from the words up to the redex with the cell put, the result's words, and the words after the redex
-module _ (s : List ℕ) (site : Site) (l a b e : ℕ) (o o₁ o₂ o₃ : List ℕ) (x y r : ℕ) (result : List ℕ) (w₁ : WroteStored s site l a b o x o₁)
+module _ (s : List ℕ) (site : Site) (l a b e : ℕ) (o o₁ o₂ o₃ : List ℕ) (x y r : ℕ) (result : List ℕ)
+    (w₁ : WroteStored s site l a b o x o₁)
     (w₂ : Wrote result o₁ x y o₂) (w₃ : Wrote (part s e (length s)) o₂ y r o₃) where
-  after : (st : State) (me : Task) (E : Context) (R : Redex) → Work s site st me E R → (c : Cell) (v : Expression) → part s a b ≡ cellWords c
+  after : (st : State) (me : Task) (E : Context) (R : Redex) → Work s site st me E R → (c : Cell) (v : Expression)
+      → part s a b ≡ cellWords c
       → e ≡ site .place + length (words (expressionAt R)) → result ≡ words v
       → Wrote (image (put (site .revision) (become me (put l c (me .local)) (plug E v)) st)) o 0 r o₃
   after st me E R w c v pc ie iv =
@@ -71,8 +75,10 @@ module _ (s : List ℕ) (site : Site) (l a b e : ℕ) (o o₁ o₂ o₃ : List �
       let f₂ = part-prefix s site st me E R w in
       let f₃ = part-rest s site st me E R w e ie in
       let im = next-image s site st me E R w (put l c (me .local)) v in
-      let k = w₁ .wrote (me .local) c (me-valid s site st me E R w .local) (local-stands s site st me E R w) (w .expression) pc in
-      let all = wrote-as (regroup (part s 0 (site .local)) (counted cellWords (put l c (me .local))) _ result _) (then k (then w₂ w₃)) in
+      let k = w₁ .wrote (me .local) c (me-valid s site st me E R w .local) (local-stands s site st me E R w)
+      (w .expression) pc in
+      let all = wrote-as (regroup (part s 0 (site .local)) (counted cellWords (put l c (me .local))) _ result _)
+      (then k (then w₂ w₃)) in
       wrote-as (cc (f₁, f₂, f₃, im, iv)) all
 
 -- where the parts of an assign stand
@@ -81,7 +87,8 @@ record Assigned (s : List ℕ) (p l e : ℕ) (k : ℕ) (v : Expression) : Type 0
   pub value : part s (p + 3) e ≡ words v
   pub to : e ≡ p + length (words (expressionAt (assigning k v)))
 
-assigned : (s : List ℕ) (p l e k : ℕ) (v : Expression) → Formed (expressionAt (assigning k v)) → l ≡ getD s (p + 2) 0 → EndsAt s (p + 3) e
+assigned : (s : List ℕ) (p l e k : ℕ) (v : Expression) → Formed (expressionAt (assigning k v)) → l ≡ getD s (p + 2) 0
+    → EndsAt s (p + 3) e
     → Stands s p (words (expressionAt (assigning k v))) → Assigned s p l e k v
 unfolding words Formed
 assigned s p l e k v f li ends h =
@@ -90,9 +97,14 @@ assigned s p l e k v f li ends h =
     let h₃ = headed (h₂ .more) in
     let hv : Stands s (p + 3) (words v) = stands-at (p + 3) (omega arith) (h₃ .more) in
     let ie = ends .ends v (f .1) hv in
-    record { location = li ∙ ap (λ i. getD s i 0) (omega arith) ∙ h₃ .is; value = part-stands e hv ie; to = omega arith }
+    record {
+      location = li ∙ ap (λ i. getD s i 0) (omega arith) ∙ h₃ .is;
+      value = part-stands e hv ie;
+      to = omega arith;
+    }
 
-assigned-location : (s : List ℕ) (p l k : ℕ) (v : Expression) → l ≡ getD s (p + 2) 0 → Stands s p (words (expressionAt (assigning k v))) → l ≡ k
+assigned-location : (s : List ℕ) (p l k : ℕ) (v : Expression) → l ≡ getD s (p + 2) 0
+    → Stands s p (words (expressionAt (assigning k v))) → l ≡ k
 unfolding words
 assigned-location s p l k v li h =
     let h₁ = headed h in
@@ -117,65 +129,96 @@ cell-some : (s : List ℕ) (m : Option Cell) (p : ℕ) → CellAt s m (value.Fro
 cell-some s none p t = absurd t
 cell-some s (some c) p t = (c, refl)
 
-module _ (s : List ℕ) (site : Site) (l : ℕ) (li : l ≡ getD s (site .place + 2) 0) (q : Value) (found : Found s (site .snapshot) (site .local) l q) where
-  look : (st : State) (me : Task) (E : Context) (k : ℕ) (v : Expression) → Work s site st me E (assigning k v) → CellAt s (get k (view me)) q
+module _ (s : List ℕ) (site : Site) (l : ℕ) (li : l ≡ getD s (site .place + 2) 0) (q : Value)
+    (found : Found s (site .snapshot) (site .local) l q) where
+  look : (st : State) (me : Task) (E : Context) (k : ℕ) (v : Expression) → Work s site st me E (assigning k v)
+      → CellAt s (get k (view me)) q
   look st me E k v w =
-      subst (λ k. CellAt s (get k (view me)) q) (assigned-location s (site .place) l k v li (redex-stands s site st me E (assigning k v) w))
-      (found .answer me (me-valid s site st me E (assigning k v) w) (snapshot-stands s site st me E (assigning k v) w) (local-stands s site st me E (assigning k v) w))
+      subst (λ k. CellAt s (get k (view me)) q)
+      (assigned-location s (site .place) l k v li (redex-stands s site st me E (assigning k v) w))
+      (found .answer me (me-valid s site st me E (assigning k v) w) (snapshot-stands s site st me E (assigning k v) w)
+      (local-stands s site st me E (assigning k v) w))
 
   pub assign-nothing : (o : List ℕ) → q ≡ value.No → Acts 12 s site o (No 5) o
-  assign-nothing o e = record { acts = λ st me E R w g. go st me E R w (redex-is R (twoTag assign) (redex-stands s site st me E R w) g) }
+  assign-nothing o e =
+      record { acts = λ st me E R w g. go st me E R w (redex-is R (twoTag assign) (redex-stands s site st me E R w) g) }
     where
-      go : (st : State) (me : Task) (E : Context) (R : Redex) → Work s site st me E R → Is (twoTag assign) R → Acted (act (site .revision) st me E R) o (No 5) o
+      go : (st : State) (me : Task) (E : Context) (R : Redex) → Work s site st me E R → Is (twoTag assign) R
+          → Acted (act (site .revision) st me E R) o (No 5) o
       go st me E R w (isAssigning k v) =
           let n = cell-none s (get k (view me)) (subst (CellAt s (get k (view me))) e (look st me E k v w)) in
           rw (written-none (view me) k v n) (refl, refl)
 
-  pub assign-done : (z : ℕ) → q ≡ value.From z → (e : ℕ) (o o₁ o₂ o₃ : List ℕ) (x y r : ℕ) → EndsAt s (site .place + 3) e
-      → WroteStored s site l (site .place + 3) e o x o₁ → Wrote (0 ∷ []) o₁ x y o₂ → Wrote (part s e (length s)) o₂ y r o₃ → Acts 12 s site o (To r) o₃
+  pub assign-done : (z : ℕ) → q ≡ value.From z → (e : ℕ) (o o₁ o₂ o₃ : List ℕ) (x y r : ℕ)
+      → EndsAt s (site .place + 3) e
+      → WroteStored s site l (site .place + 3) e o x o₁ → Wrote (0 ∷ []) o₁ x y o₂
+      → Wrote (part s e (length s)) o₂ y r o₃ → Acts 12 s site o (To r) o₃
   unfolding words
-  assign-done z qe e o o₁ o₂ o₃ x y r ends w₁ w₂ w₃ = record { acts = λ st me E R w g. go st me E R w (redex-is R (twoTag assign) (redex-stands s site st me E R w) g) }
+  assign-done z qe e o o₁ o₂ o₃ x y r ends w₁ w₂ w₃ =
+      record { acts = λ st me E R w g. go st me E R w (redex-is R (twoTag assign) (redex-stands s site st me E R w) g) }
     where
-      go : (st : State) (me : Task) (E : Context) (R : Redex) → Work s site st me E R → Is (twoTag assign) R → Acted (act (site .revision) st me E R) o (To r) o₃
+      go : (st : State) (me : Task) (E : Context) (R : Redex) → Work s site st me E R → Is (twoTag assign) R
+          → Acted (act (site .revision) st me E R) o (To r) o₃
       go st me E R w (isAssigning k v) =
           let (c, h) = cell-some s (get k (view me)) z (subst (CellAt s (get k (view me))) qe (look st me E k v w)) in
-          let a = assigned s (site .place) l e k v (redex-formed w) li ends (redex-stands s site st me E (assigning k v) w) in
-          let n = after s site l (site .place + 3) e e o o₁ o₂ o₃ x y r (0 ∷ []) w₁ w₂ w₃ st me E (assigning k v) w (plain v) (constant unit) (a .value) (a .to) refl in
-          rw (written-some (view me) k v c h) (r, refl, subst (λ i. Wrote (image (put (site .revision) (become me (put i (plain v) (me .local)) (plug E (constant unit))) st)) o 0 r o₃) (a .location) n)
+          let a = assigned s (site .place) l e k v (redex-formed w) li ends
+          (redex-stands s site st me E (assigning k v) w) in
+          let n = after s site l (site .place + 3) e e o o₁ o₂ o₃ x y r (0 ∷ []) w₁ w₂ w₃ st me E (assigning k v) w
+          (plain v) (constant unit) (a .value) (a .to) refl in
+          rw (written-some (view me) k v c h) (
+            r,
+            refl,
+            subst (λ i. Wrote
+                (image (put (site .revision) (become me (put i (plain v) (me .local)) (plug E (constant unit))) st)) o 0 r
+                o₃) (a .location) n,
+          )
 
 -- ref, with a new location
 record Made (s : List ℕ) (p e : ℕ) (v : Expression) : Type 0 where
   pub value : part s (p + 1) e ≡ words v
   pub to : e ≡ p + length (words (expressionAt (making (plain v))))
 
-made : (s : List ℕ) (p e : ℕ) (v : Expression) → Formed (expressionAt (making (plain v))) → EndsAt s (p + 1) e → Stands s p (words (expressionAt (making (plain v)))) → Made s p e v
+made : (s : List ℕ) (p e : ℕ) (v : Expression) → Formed (expressionAt (making (plain v))) → EndsAt s (p + 1) e
+    → Stands s p (words (expressionAt (making (plain v)))) → Made s p e v
 unfolding words Formed
 made s p e v f ends h =
     let h₁ = headed h in
     let ie = ends .ends v f (h₁ .more) in
     record { value = part-stands e (h₁ .more) ie; to = omega arith }
 
-pub make-done : (s : List ℕ) (site : Site) (l e : ℕ) (o o₁ o₂ o₃ o₄ : List ℕ) (x y z r : ℕ) → EndsAt s (site .place + 1) e
-    → WroteStored s site l (site .place + 1) e o x o₁ → Wrote (5 ∷ []) o₁ x y o₂ → Wrote (l ∷ []) o₂ y z o₃ → Wrote (part s e (length s)) o₃ z r o₄
+pub make-done : (s : List ℕ) (site : Site) (l e : ℕ) (o o₁ o₂ o₃ o₄ : List ℕ) (x y z r : ℕ)
+    → EndsAt s (site .place + 1) e
+    → WroteStored s site l (site .place + 1) e o x o₁ → Wrote (5 ∷ []) o₁ x y o₂ → Wrote (l ∷ []) o₂ y z o₃
+    → Wrote (part s e (length s)) o₃ z r o₄
     → MakesAs s site l o (To r) o₄
 unfolding words
 make-done s site l e o o₁ o₂ o₃ o₄ x y z r ends w₁ w₂ w₃ w₄ =
     record { acts = λ st me E R w g n. go st me E R w n (redex-is R (oneTag ref) (redex-stands s site st me E R w) g) }
   where
-    go : (st : State) (me : Task) (E : Context) (R : Redex) → Work s site st me E R → newLocation st ≡ some l → Is (oneTag ref) R → Acted (act (site .revision) st me E R) o (To r) o₄
+    go : (st : State) (me : Task) (E : Context) (R : Redex) → Work s site st me E R → newLocation st ≡ some l
+        → Is (oneTag ref) R → Acted (act (site .revision) st me E R) o (To r) o₄
     go st me E R w n (isMaking v) =
         let a = made s (site .place) e v (redex-formed w) ends (redex-stands s site st me E (making (plain v)) w) in
-        rw n (r, refl, after s site l (site .place + 1) e e o o₁ o₃ o₄ x z r (5 ∷ l ∷ []) w₁ (then w₂ w₃) w₄ st me E (making (plain v)) w (plain v) (leaf location l) (a .value) (a .to) refl)
+        rw n (
+          r,
+          refl,
+          after s site l (site .place + 1) e e o o₁ o₃ o₄ x z r (5 ∷ l ∷ []) w₁ (then w₂ w₃) w₄ st me E
+              (making (plain v)) w (plain v) (leaf location l) (a .value) (a .to) refl,
+        )
 
-pub make-none : (s : List ℕ) (site : Site) (o : List ℕ) (q : Number) → NewLocation s q → q ≡ number.No → Acts 10 s site o (No 7) o
-make-none s site o q f e = record { acts = λ st me E R w g. go st me E R w (redex-is R (oneTag ref) (redex-stands s site st me E R w) g) }
+pub make-none : (s : List ℕ) (site : Site) (o : List ℕ) (q : Number) → NewLocation s q → q ≡ number.No
+    → Acts 10 s site o (No 7) o
+make-none s site o q f e =
+    record { acts = λ st me E R w g. go st me E R w (redex-is R (oneTag ref) (redex-stands s site st me E R w) g) }
   where
-    go : (st : State) (me : Task) (E : Context) (R : Redex) → Work s site st me E R → Is (oneTag ref) R → Acted (act (site .revision) st me E R) o (No 7) o
+    go : (st : State) (me : Task) (E : Context) (R : Redex) → Work s site st me E R → Is (oneTag ref) R
+        → Acted (act (site .revision) st me E R) o (No 7) o
     go st me E R w (isMaking v) =
         let n : newLocation st ≡ none = sym (f .is st (w .valid) (w .is)) ∙ ap asOption e in
         rw n (refl, refl)
 
-pub make-some : (s : List ℕ) (site : Site) (o : List ℕ) (q : Number) (l : ℕ) (a : Act) (o′ : List ℕ) → NewLocation s q → q ≡ number.Is l
+pub make-some : (s : List ℕ) (site : Site) (o : List ℕ) (q : Number) (l : ℕ) (a : Act) (o′ : List ℕ) → NewLocation s q
+    → q ≡ number.Is l
     → MakesAs s site l o a o′ → Acts 10 s site o a o′
 make-some s site o q l a o′ f e m =
     record { acts = λ st me E R w g. m .acts st me E R w g (sym (f .is st (w .valid) (w .is)) ∙ ap asOption e) }

@@ -32,7 +32,8 @@ pub record WroteStored (s : List ℕ) (site : Site) (l a b : ℕ) (o : List ℕ)
   pub size : length o′ ≡ length o
   pub wrote : (m : Store) (c : Cell) → ValidStore m → Stands s (site .local) (counted cellWords m)
       → site .expression ≡ site .local + length (counted cellWords m) → part s a b ≡ cellWords c
-      → Wrote (part s 0 (site .local) ++ (counted cellWords (put l c m) ++ part s (site .expression) (site .place))) o 0 r o′
+      → Wrote (part s 0 (site .local) ++ (counted cellWords (put l c m) ++ part s (site .expression) (site .place))) o 0
+      r o′
 
 -- ref, where l is the new location
 pub record MakesAs (s : List ℕ) (site : Site) (l : ℕ) (o : List ℕ) (a : Act) (o′ : List ℕ) : Type 0 where

@@ -25,7 +25,8 @@ pub record Finds (s : List ℕ) (q : ℕ) (r : Seek) : Type 0 where
 pub record WroteOverlaid (s : List ℕ) (a b : ℕ) (o : List ℕ) (to r : ℕ) (o′ : List ℕ) : Type 0 where
   pub high : r ≤ length o + 1
   pub size : length o′ ≡ length o
-  pub wrote : (x y : Store) → ValidStore x → ValidStore y → Stands s a (counted cellWords x) → Stands s b (counted cellWords y)
+  pub wrote : (x y : Store) → ValidStore x → ValidStore y → Stands s a (counted cellWords x)
+      → Stands s b (counted cellWords y)
       → Wrote (counted cellWords (overlaid x y)) o to r o′
 
 -- the words from a to b but for those from `from` to `end`, if these start among them
@@ -38,7 +39,8 @@ pub record Joinable (s : List ℕ) (site : Site) (local : ℕ) : Type 0 where
   pub inside : local < length s
   pub few : getD s local 0 ≤ 256
 
--- one section less, that from `from` to `end`; the local store of the site overlaid by that at `local`; unit at the place
+-- one section less, that from `from` to `end`; the local store of the site overlaid by that at `local`; unit at the
+-- place
 pub record WroteJoined (s : List ℕ) (site : Site) (from end local : ℕ) (o : List ℕ) (r : ℕ) (o′ : List ℕ) : Type 0 where
   pub wrote : (x y : Store) → ValidStore x → ValidStore y → Stands s (site .local) (counted cellWords x)
       → Stands s local (counted cellWords y)

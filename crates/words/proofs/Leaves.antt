@@ -86,7 +86,8 @@ module _ (s : List ℕ) (at tag p : ℕ) (f : Front) (q : f ≡ frontOf s 1 p) (
             let r = front-within s 1 p f row next q d .row in
             positive k (ap (λ (n : Row). n .limit) (sym (r ∙ ap rowOf (e ∙ sym b) ∙ rowOf-tag (leafTag k))) ∙ z)
 
-        here : (k : Leaf) → tag ≡ tagWord (leafTag k) → (before es : List Expression) → allNamed k before ≡ allNamed k es
+        here : (k : Leaf) → tag ≡ tagWord (leafTag k) → (before es : List Expression)
+            → allNamed k before ≡ allNamed k es
             → TreesAt s p es → FirstAt s k before p
         here k t before [] eq st =
             let r : Wrong ≡ Is row next = sym (no-node s p st) ∙ sym q ∙ d in
@@ -94,7 +95,8 @@ module _ (s : List ℕ) (at tag p : ℕ) (f : Front) (q : f ≡ frontOf s 1 p) (
         here k t before (x ∷ es) eq st =
             let (n, y) = leaf-tagged k x (sym (node s p x es st .tag) ∙ e ∙ t) in
             let st′ : TreesAt s p (leaf k n ∷ es) = along (λ (x : Expression). TreesAt s p (x ∷ es)) y st in
-            let same : allNamed k before ≡ allNamed k (leaf k n ∷ es) = eq ∙ ap (λ (x : Expression). allNamed k (x ∷ es)) y in
+            let same : allNamed k before ≡ allNamed k (leaf k n ∷ es)
+            = eq ∙ ap (λ (x : Expression). allNamed k (x ∷ es)) y in
             let eq′ : allNamed k before ≡ n ∷ allNamed k es = same ∙ leaf-named k n es in
             let (w, o) = leaf-node s p k n es st′ in
             record { after = es; stands = o; names = eq′ ∙ ap (λ (m : ℕ). m ∷ allNamed k es) (sym w) }
@@ -140,7 +142,8 @@ module _ (s : List ℕ) (at tag p : ℕ) (f : Front) (q : f ≡ frontOf s 1 p) (
             left = λ k es t h. let l = passed .left k es t h in go k t es (l .after) (l .names) (l .stands);
           }
         where
-          go : (k : Leaf) → tag ≡ tagWord (leafTag k) → (before es : List Expression) → allNamed k before ≡ allNamed k es
+          go : (k : Leaf) → tag ≡ tagWord (leafTag k) → (before es : List Expression)
+              → allNamed k before ≡ allNamed k es
               → TreesAt s p es → Left s k before body
           go k t before [] eq st =
               let r : Wrong ≡ Is row next = sym (no-node s p st) ∙ sym q ∙ d in
@@ -253,7 +256,8 @@ module _ (s : List ℕ) (f : Found) (h : NextLeaf s 0 5 f) where
               (found-none s 0 6 revision (e ∷ []) g i b refl (whole s e w o));
         }
       where
-        go : (e : Expression) → allNamed location (e ∷ []) ≡ [] → allNamed revision (e ∷ []) ≡ [] → false ≡ holdsHandle e
+        go : (e : Expression) → allNamed location (e ∷ []) ≡ [] → allNamed revision (e ∷ []) ≡ []
+            → false ≡ holdsHandle e
         go e n x =
             sym (handle-named e ∙ rw (sym (whole-named location e) ∙ n, sym (whole-named revision e) ∙ x) refl)
 
@@ -336,7 +340,8 @@ module _ (s : List ℕ) (m₀ m : List Bool) (p : ℕ) (f : Found) (scan : Locat
   pub locations-end : f ≡ Nothing → LocationsMarked s m₀ m
   locations-end d = record { marks = marked-all s location m₀ m p 5 f refl (scan .marking) h d }
 
-  pub locations-on : (q : ℕ) (n : List Bool) → f ≡ At q → n ≡ set m (getD s (q + 1) 0) true → LocationScan s m₀ n (q + 2)
+  pub locations-on : (q : ℕ) (n : List Bool) → f ≡ At q → n ≡ set m (getD s (q + 1) 0) true
+      → LocationScan s m₀ n (q + 2)
   locations-on q n d e =
       record {
         marking =

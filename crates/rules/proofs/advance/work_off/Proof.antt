@@ -104,7 +104,13 @@ returns-7 c = search acts-at
 
 -- src/advance.rt:49:5
 calculate-requires : tie.Need-calculate-requires
-calculate-requires c κs = arithmetic-left _ (c .before .before .before .before .before .before .before .before .word-at .ensures) (c .before .before .before .before .before .before .before .before .before .before .before .pre) (c .before .before .before .before .before .before .before .if1 .left) (c .before .before .before .before .before .before .if2 .left) (c .before .before .before .before .before .if3 .left) (c .before .before .before .before .if4 .left) (c .before .before .before .if5 .left) (c .before .before .if6 .left) (c .before .if7 .left)
+calculate-requires c κs =
+    arithmetic-left _ (c .before .before .before .before .before .before .before .before .word-at .ensures)
+    (c .before .before .before .before .before .before .before .before .before .before .before .pre)
+    (c .before .before .before .before .before .before .before .if1 .left)
+    (c .before .before .before .before .before .before .if2 .left)
+    (c .before .before .before .before .before .if3 .left) (c .before .before .before .before .if4 .left)
+    (c .before .before .before .if5 .left) (c .before .before .if6 .left) (c .before .if7 .left)
 
 -- src/advance.rt:23:1
 same-length-8 : tie.Need-same-length-8

@@ -38,7 +38,8 @@ past-requires-2 c κs = search needs
 
 -- src/apply.rt:33:9
 copy-part-requires : tie.Need-copy-part-requires
-copy-part-requires c κs = let b = bounds (c .before .before .before .before .before .before .before .pre) in search needs
+copy-part-requires c κs =
+    let b = bounds (c .before .before .before .before .before .before .before .pre) in search needs
 
 -- src/apply.rt:34:9
 substitute-requires : tie.Need-substitute-requires

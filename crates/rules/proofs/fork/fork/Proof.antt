@@ -25,7 +25,8 @@ past-requires : tie.Need-past-requires
 past-requires c κs = search needs
 
 find-section-requires : tie.Need-find-section-requires
-find-section-requires c κs = let b = bounds (c .before .before .before .before .before .before .before .before .pre) in omega arith
+find-section-requires c κs =
+    let b = bounds (c .before .before .before .before .before .before .before .before .pre) in omega arith
 
 write-forked-requires : tie.Need-write-forked-requires
 write-forked-requires c κs = search needs

@@ -10,7 +10,8 @@ put-word-requires : tie.Need-put-word-requires
 put-word-requires c κs = search needs
 
 overlay-stores-requires : tie.Need-overlay-stores-requires
-overlay-stores-requires c κs = let b = bounds ((c .before .before .before .before .before .before .before .pre) .0 .working) in search needs
+overlay-stores-requires c κs =
+    let b = bounds ((c .before .before .before .before .before .before .before .pre) .0 .working) in search needs
 
 put-word-requires-2 : tie.Need-put-word-requires-2
 put-word-requires-2 c κs = search needs

@@ -16,7 +16,8 @@ put-word-requires : tie.Need-put-word-requires
 put-word-requires c κs = search needs
 
 copy-with-requires : tie.Need-copy-with-requires
-copy-with-requires c κs = let b = bounds ((c .before .before .before .before .before .before .before .before .pre) .working) in search needs
+copy-with-requires c κs =
+    let b = bounds ((c .before .before .before .before .before .before .before .before .pre) .working) in search needs
 
 put-word-requires-2 : tie.Need-put-word-requires-2
 put-word-requires-2 c κs = search needs

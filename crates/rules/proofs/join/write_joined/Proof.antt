@@ -16,19 +16,29 @@ put-word-requires : tie.Need-put-word-requires
 put-word-requires c κs = search needs
 
 copy-but-requires : tie.Need-copy-but-requires
-copy-but-requires c κs = let b = bounds ((c .before .before .before .before .before .before .before .before .pre) .working) in search needs
+copy-but-requires c κs =
+    let b = bounds ((c .before .before .before .before .before .before .before .before .pre) .working) in search needs
 
 overlay-stores-requires : tie.Need-overlay-stores-requires
-overlay-stores-requires c κs = let b = bounds ((c .before .before .before .before .before .before .before .before .before .before .before .before .pre) .working) in search needs
+overlay-stores-requires c κs =
+    let b = bounds ((c .before .before .before .before .before .before .before .before .before .before .before .before
+    .pre) .working) in
+    search needs
 
 copy-part-requires : tie.Need-copy-part-requires
-copy-part-requires c κs = let b = bounds ((c .before .before .before .before .before .before .before .before .before .before .before .before .before .before .before .before .pre) .working) in search needs
+copy-part-requires c κs =
+    let b = bounds ((c .before .before .before .before .before .before .before .before .before .before .before .before
+    .before .before .before .before .pre) .working) in
+    search needs
 
 put-word-requires-2 : tie.Need-put-word-requires-2
 put-word-requires-2 c κs = search needs
 
 add-copy-but : tie.Need-add-copy-but
-add-copy-but c = let b = bounds ((c .before .before .before .before .before .before .before .before .before .before .before .before .before .before .before .before .before .before .before .before .before .before .before .pre) .working) in omega arith
+add-copy-but c =
+    let b = bounds ((c .before .before .before .before .before .before .before .before .before .before .before .before
+    .before .before .before .before .before .before .before .before .before .before .before .pre) .working) in
+    omega arith
 
 copy-but-requires-2 : tie.Need-copy-but-requires-2
 copy-but-requires-2 c κs = search needs

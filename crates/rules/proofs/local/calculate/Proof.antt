@@ -36,7 +36,10 @@ put-result-requires c κs = search needs
 
 -- src/local.rt:92:26
 add-copy-part : tie.Need-add-copy-part
-add-copy-part c = let b = bounds ((c .before .before .before .before .before .before .before .before .before .before .before .before .pre) .1) in omega arith
+add-copy-part c =
+    let b = bounds ((c .before .before .before .before .before .before .before .before .before .before .before .before
+    .pre) .1) in
+    omega arith
 
 -- src/local.rt:92:9
 copy-part-requires-2 : tie.Need-copy-part-requires-2

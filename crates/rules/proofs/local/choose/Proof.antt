@@ -44,7 +44,8 @@ returns c = search choose-yes
 
 -- src/local.rt:44:9
 replace-requires-2 : tie.Need-replace-requires-2
-replace-requires-2 c κs = let b = bounds (c .before .before .before .before .before .before .before .pre) in search needs
+replace-requires-2 c κs =
+    let b = bounds (c .before .before .before .before .before .before .before .pre) in search needs
 
 -- src/local.rt:32:1
 same-length-2 : tie.Need-same-length-2

@@ -45,7 +45,8 @@ add-replace c = let b = bounds (c .before .before .before .before .before .befor
 
 -- src/local.rt:59:9
 replace-requires : tie.Need-replace-requires
-replace-requires c κs = let b = bounds (c .before .before .before .before .before .before .before .before .before .pre) in search needs
+replace-requires c κs =
+    let b = bounds (c .before .before .before .before .before .before .before .before .before .pre) in search needs
 
 -- src/local.rt:49:1
 same-length : tie.Need-same-length

@@ -63,7 +63,8 @@ pub +closed-in-spec : {M : Type 1} → statement M
     (λ c. search (turn-free, not-true))  -- returns
     (λ c. search needs)  -- sub-pending-2
     (λ c.
-    let g = variable-at _ _ _ (c .before .before .before .before .node-at .ensures) _ _ (c .before .before .x .given .1) in
+    let g = variable-at _ _ _ (c .before .before .before .before .node-at .ensures) _ _ (c .before .before .x .given .1)
+    in
     omega arith)  -- loop-less-2
     (λ c. search (turn-bound, not-false))  -- loop-again-2
     (λ c. search needs)  -- enum-known-x-2
@@ -71,14 +72,17 @@ pub +closed-in-spec : {M : Type 1} → statement M
     let g = binder-at _ _ _ (c .before .before .before .node-at .ensures) _ _ (c .before .x2 .given .1) in
     omega arith)  -- array-read-if2
     (λ c.
-    let g = binder-at _ _ _ (c .before .before .before .before .node-at .ensures) _ _ (c .before .before .x2 .given .1) in
+    let g = binder-at _ _ _ (c .before .before .before .before .node-at .ensures) _ _ (c .before .before .x2 .given .1)
+    in
     omega arith)  -- loop-less-3
     (λ c. search turn-again)  -- loop-again-3
     (λ c.
-    let g = binder-at _ _ _ (c .before .before .before .before .node-at .ensures) _ _ (c .before .before .x2 .given .1) in
+    let g = binder-at _ _ _ (c .before .before .before .before .node-at .ensures) _ _ (c .before .before .x2 .given .1)
+    in
     omega arith)  -- array-write-inner
     (λ c κs.
-    let g = binder-at _ _ _ (c .before .before .before .before .node-at .ensures) _ _ (c .before .before .x2 .given .1) in
+    let g = binder-at _ _ _ (c .before .before .before .before .node-at .ensures) _ _ (c .before .before .x2 .given .1)
+    in
     omega (arith, c .before .before .before .before .before .before .before .before .pre .0))  -- closed-in-requires
     (λ c. search needs)  -- enum-known-end
     (λ c. search needs)  -- enum-told

@@ -69,7 +69,8 @@ returns-3 c = search no-types
 
 loop-less : tie.Need-loop-less Inv-loop μ-loop
 loop-less c =
-    let s = c .before .before .before .before .before .before .before .before .before .before .before .before .args .s in
+    let s = c .before .before .before .before .before .before .before .before .before .before .before .before .args .s
+    in
     let p = c .before .before .before .before .before .before .before .before .before .before .loop .p in
     let d : Deeper (s .now) p (c .before .body .given .0 .0) = search body-on in
     omega arith

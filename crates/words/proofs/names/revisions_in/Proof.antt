@@ -1,5 +1,6 @@
 -- `words::names::revisions_in` meets its contract. The loop's invariant: the marks so far, with those of the numbers
--- that are named from `p` on, are all that is wanted, and the count is theirs. The measure is what is left of the words.
+-- that are named from `p` on, are all that is wanted, and the count is theirs. The measure is what is left of the
+-- words.
 use Prim.Native.Nat.{_-_}
 use native.Mathlib.Omega.{arith}
 use lib.ListN.{length}
