@@ -43,7 +43,7 @@ markAll-member (n ∷ ns) m k h =
         rw (sym e, getD-set-same m k true false h, eqb-same k) (or-true (member k ns))
     go (no d) = rw (getD-set-other m n k true false d, eqb-other k n d) refl
 
-tally-few : (m : List Bool) → tally m ≤ length m
+pub tally-few : (m : List Bool) → tally m ≤ length m
 unfolding tally
 tally-few [] = omega arith
 tally-few (true ∷ m) = omega (arith, tally-few m)

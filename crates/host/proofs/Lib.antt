@@ -1,0 +1,3 @@
+-- The laws that the proofs of the C functions use.
+pub mod Bits
+pub mod Reporting
