@@ -3,6 +3,7 @@ pub mod Options
 pub mod Maps
 pub mod Reading
 pub mod Places
+pub mod ValuePlaces
 pub mod Members
 pub mod Stores
 pub mod Images
@@ -11,4 +12,18 @@ pub mod TypingRules
 pub mod TypingLaws
 pub mod NewNumbers
 pub mod Validity
+pub mod Views
+pub mod Outcomes
+-- Runs and demand 3
+pub mod Taken
+pub mod Progress
+pub mod Retyping
+pub mod Safety
+pub mod Keeping
+pub mod Forks
+pub mod Joins
+pub mod Soundness
+pub mod Runs
+pub mod DemandThree
+-- The table of fixed examples
 pub mod Examples

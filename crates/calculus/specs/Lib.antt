@@ -24,5 +24,8 @@ pub mod Steps
 pub mod Typing
 -- "What comes back"
 pub mod Answers
+pub mod Conditions
+-- Runs and demand 3
+pub mod Runs
 -- "Fixed examples"
 pub mod Examples
