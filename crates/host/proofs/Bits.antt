@@ -48,11 +48,15 @@ down-room {marks} {m} {i} d h =
     let e = d .sum in
     record { twice = omega arith }
 
-down-cons : (marks : List Bool) (i : ℕ) → i < length marks → bits (drop i marks) ≡ choose (getD marks i false) 1 0 + 2 * bits (drop (i + 1) marks)
+down-cons : (marks : List Bool) (i : ℕ) → i < length marks
+    → bits (drop i marks) ≡ choose (getD marks i false) 1 0 + 2 * bits (drop (i + 1) marks)
 unfolding bits
-down-cons marks i h = ap bits (drop-cons marks i false h) ∙ ap (λ k. choose (getD marks i false) 1 0 + 2 * bits (drop k marks)) (sym (add-one i))
+down-cons marks i h =
+    ap bits (drop-cons marks i false h) ∙ ap (λ k. choose (getD marks i false) 1 0 + 2 * bits (drop k marks))
+    (sym (add-one i))
 
-pub down-set : {marks : List Bool} {m i : ℕ} → Down marks m i → 0 < i → getD marks (i - 1) false ≡ true → Down marks (m * 2 + 1) (i - 1)
+pub down-set : {marks : List Bool} {m i : ℕ} → Down marks m i → 0 < i → getD marks (i - 1) false ≡ true
+    → Down marks (m * 2 + 1) (i - 1)
 down-set {marks} {m} {i} d h t =
     let r = down-room d h .twice in
     let z = d .size in
@@ -63,11 +67,14 @@ down-set {marks} {m} {i} d h t =
     record {
       size = d .size;
       high = omega arith;
-      sum = sym (k ∙ ap (λ b. choose b 1 0 + 2 * bits (drop (i - 1 + 1) marks)) t ∙ ap (λ n. 1 + 2 * bits (drop n marks)) j ∙ ap (λ n. 1 + 2 * n) (sym e) ∙ (omega arith));
+      sum =
+          sym (k ∙ ap (λ b. choose b 1 0 + 2 * bits (drop (i - 1 + 1) marks)) t ∙ ap (λ n. 1 + 2 * bits (drop n marks))
+          j ∙ ap (λ n. 1 + 2 * n) (sym e) ∙ (omega arith));
       small = omega arith;
     }
 
-pub down-clear : {marks : List Bool} {m i : ℕ} → Down marks m i → 0 < i → getD marks (i - 1) false ≡ false → Down marks (m * 2) (i - 1)
+pub down-clear : {marks : List Bool} {m i : ℕ} → Down marks m i → 0 < i → getD marks (i - 1) false ≡ false
+    → Down marks (m * 2) (i - 1)
 down-clear {marks} {m} {i} d h t =
     let r = down-room d h .twice in
     let z = d .size in
@@ -78,7 +85,9 @@ down-clear {marks} {m} {i} d h t =
     record {
       size = d .size;
       high = omega arith;
-      sum = sym (k ∙ ap (λ b. choose b 1 0 + 2 * bits (drop (i - 1 + 1) marks)) t ∙ ap (λ n. 0 + 2 * bits (drop n marks)) j ∙ ap (λ n. 0 + 2 * n) (sym e) ∙ (omega arith));
+      sum =
+          sym (k ∙ ap (λ b. choose b 1 0 + 2 * bits (drop (i - 1 + 1) marks)) t ∙ ap (λ n. 0 + 2 * bits (drop n marks))
+          j ∙ ap (λ n. 0 + 2 * n) (sym e) ∙ (omega arith));
       small = omega arith;
     }
 
