@@ -9,7 +9,7 @@ use Rattle.calculus.specs.Formed.{value}
 use Rattle.calculus.specs.Stores.{Cell, content, written}
 use Rattle.calculus.specs.States.{State, Task, view, absorbed}
 use Rattle.calculus.specs.Redexes.{Redex, applying, choosing, calculating, making, reading, assigning, forking}
-use Rattle.calculus.specs.Redexes.{joining, redex}
+use Rattle.calculus.specs.Redexes.{joining}
 use Rattle.calculus.specs.Places.{Context, place, plug, Place, is_value, works_at, stuck_at}
 use Rattle.calculus.specs.NewNumbers.{new_location, new_revision}
 use Rattle.calculus.specs.Rules.{Rule, by_apply, by_if, by_ref, by_read, by_assign, by_fork, by_join, by_join_gone}

@@ -47,7 +47,7 @@ mono {U} {W} w g (leaf revision n) A h =
     rw (test_true (W.tasks n) (w.tasks n (test_some (U.tasks n) p))) q
 mono {U} {W} {Γ} {Δ} w g (lambda x B e) A h =
     let (C, p, q) = ▸-some (type_of U (bind x B Γ) e) (λ C. some (function B C)) h in
-    rw (mono w (bind_sub x B {Γ = Γ} {Δ = Δ} g) e C p) q
+    rw (mono {U = U} {W = W} {Γ = bind x B Γ} {Δ = bind x B Δ} w (bind_sub x B {Γ = Γ} {Δ = Δ} g) e C p) q
 mono {U} {W} {Γ} {Δ} w g (one o e) A h =
     let (C, p, q) = ▸-some (type_of U Γ e) (one_type o) h in
     rw (mono {Γ = Γ} {Δ = Δ} w g e C p) q

@@ -1,5 +1,5 @@
 -- What comes back (01, "What comes back"): the numbers, the order of refusals, and what is in each lent buffer after.
-use Rattle.std.specs.Prelude.{ℕ, zero, suc, ◌+◌, ◌-◌, List, [], ◌∷◌, ◌++◌, Bool, true, false, ◌&&◌, ◌||◌, length, take, drop, replicate, leb, ltb, eqb}
+use Rattle.std.specs.Prelude.{ℕ, zero, suc, ◌+◌, ◌-◌, List, [], ◌∷◌, ◌++◌, Bool, false, ◌&&◌, ◌||◌, length, take, drop, replicate, leb, ltb, eqb}
 use Rattle.std.proofs.Math.Option.{Option, none, some}
 use Rattle.calculus.specs.Types.{ScriptType}
 use Rattle.calculus.specs.Expressions.{Expression, constant, leaf, lambda, one, two, if}
@@ -10,7 +10,7 @@ use Rattle.calculus.specs.Numbers.{choose}
 use Rattle.calculus.specs.States.{State, first}
 use Rattle.calculus.specs.Images.{image, state_of}
 use Rattle.calculus.specs.NewNumbers.{taken_revisions}
-use Rattle.calculus.specs.Steps.{Reason, by_shape, by_location, Outcome, next, emptied, finished, waits, stuck}
+use Rattle.calculus.specs.Steps.{by_shape, by_location, Outcome, next, emptied, finished, waits, stuck}
 use Rattle.calculus.specs.Steps.{not_live, no_number, step}
 use Rattle.calculus.specs.Typing.{Assignment, nothing, bind, no_world, type_of}
 

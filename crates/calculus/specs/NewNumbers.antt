@@ -1,7 +1,7 @@
 -- New numbers (01, "One step", ref and fork): what is named where, and the smallest number that is not taken.
-use Rattle.std.specs.Prelude.{ℕ, zero, suc, List, [], ◌∷◌, ◌++◌, Bool, true, false, cond}
+use Rattle.std.specs.Prelude.{ℕ, zero, suc, List, [], ◌∷◌, ◌++◌, true, false, cond}
 use Rattle.std.proofs.Math.Option.{Option, none, some}
-use Rattle.calculus.specs.Maps.{Map, keys}
+use Rattle.calculus.specs.Maps.{keys}
 use Rattle.calculus.specs.Expressions.{Leaf, revision, Expression, constant, leaf, lambda, one, two, if}
 use Rattle.calculus.specs.Formed.{member}
 use Rattle.calculus.specs.Redexes.{same_leaf}

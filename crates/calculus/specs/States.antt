@@ -1,5 +1,5 @@
 -- States (01, "State"): revision numbers map to a snapshot, a local store and an expression; views; the first state.
-use Rattle.std.specs.Prelude.{ℕ, List, [], ◌∷◌}
+use Rattle.std.specs.Prelude.{[], ◌∷◌}
 use Rattle.calculus.specs.Expressions.{Expression}
 use Rattle.calculus.specs.Maps.{Map, overlaid}
 use Rattle.calculus.specs.Stores.{Store}

@@ -1,5 +1,5 @@
 -- One step of revision r as a function of the state (01, "One step"), with what it comes to where there is no step.
-use Rattle.std.specs.Prelude.{ℕ, [], cond}
+use Rattle.std.specs.Prelude.{ℕ, cond}
 use Rattle.std.proofs.Math.Option.{Option, none, some}
 use Rattle.calculus.specs.Maps.{get, put, remove}
 use Rattle.calculus.specs.Expressions.{unit, location, revision, constant, leaf}

@@ -1,9 +1,9 @@
 -- The table of tags (01, "Expressions as words"): a tag is a place in it; what follows a tag is its own word, types,
 -- children.
-use Rattle.std.specs.Prelude.{ℕ, List, [], ◌∷◌, Bool, true, false}
+use Rattle.std.specs.Prelude.{ℕ, List, [], ◌∷◌, true, false}
 use Rattle.calculus.specs.Types.{Basic, unit_type, bool_type, num_type, rev_type}
 use Rattle.calculus.specs.Expressions.{Constant, unit, bool, Leaf, number, variable, location, revision}
-use Rattle.calculus.specs.Expressions.{One, ref, read, fork, join, Arithmetic, add, subtract, less}
+use Rattle.calculus.specs.Expressions.{One, ref, read, fork, join, add, subtract, less}
 use Rattle.calculus.specs.Expressions.{Two, apply, assign, arithmetic}
 
 -- an expression without its own words and children

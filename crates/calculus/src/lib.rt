@@ -1,0 +1,2 @@
+// No code: the definitions stand in specs/, and their laws in proofs/.
+#![tactic(auto)]

@@ -4,6 +4,8 @@
 // the reader, and notes without digits may stand between. An example is KIND COUNT and then COUNT words, at most 8,192;
 // a kind may take more words after these, as step will take its pick.
 // KIND is 0: load, 1: check, 2: step, 3: report, 4: signed, 5: less, 6: add, 7: subtract.
+#![tactic(auto)]
+
 ghost use Rattle.std.specs.Prelude.{◌≡◌, ◌≤◌, length};
 
 mod line;

@@ -1,4 +1,6 @@
 // The C functions: load, step, run, check and report over lent buffers, with the paper's numbers as answers.
+#![tactic(auto)]
+
 ghost use Rattle.std.specs.Prelude.{◌≡◌, ◌+◌, ◌≤◌, length, drop};
 ghost use Rattle.calculus.specs.Answers.{check_answer, load_answer, step_answer, report_answer, run_answer};
 ghost use Rattle.engine.specs.Answers.{stepped_number, stepped_length, loaded_number, loaded_length, ran_number, ran_length};

@@ -1,4 +1,6 @@
 // Images: where the parts of a state stand in its words, which words are an image, and which numbers are in use.
+#![tactic(auto)]
+
 pub mod fresh;
 pub mod nodes;
 pub mod parts;

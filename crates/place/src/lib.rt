@@ -1,4 +1,6 @@
 // The place of work in an expression's words: a loop from the top that keeps only a position.
+#![tactic(auto)]
+
 ghost use Rattle.std.specs.Prelude.{◌<◌, length};
 ghost use Rattle.place.specs.Search.{Asks, RedexBy, Looks, Placed};
 

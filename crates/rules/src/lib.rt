@@ -1,4 +1,6 @@
 // The rules on words: from an image and the place of work in it, the next image, written through a cursor.
+#![tactic(auto)]
+
 pub mod advance;
 pub mod apply;
 pub mod fork;

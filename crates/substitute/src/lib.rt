@@ -1,4 +1,6 @@
 // Substitution on words: an expression is written with a value for each free occurrence of a variable.
+#![tactic(auto)]
+
 ghost use Rattle.std.specs.Prelude.{◌+◌, ◌≤◌, length};
 ghost use Rattle.substitute.specs.Substitutes.{PieceAt, Ready, WritesNode, Replaces, Substitutes};
 

@@ -1,4 +1,6 @@
 // The check of a script: whether it has a type by the rules, and which, with no type copied on the way.
+#![tactic(auto)]
+
 ghost use Rattle.std.specs.Prelude.{◌≤◌, length};
 ghost use Rattle.typing.specs.Checks.{CheckPromise};
 ghost use Rattle.typing.specs.Answering.{Refuses, PutType, Answered};

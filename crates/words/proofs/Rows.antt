@@ -1,6 +1,6 @@
 -- The packed table of the code agrees with `row_of`, by one test that antt computes; how much a row asks for at most.
 use Prim.Native.Nat.{ℕ, zero, suc, ◌+◌, ◌-◌, ◌/◌, ◌%◌, ◌<◌, ◌≤◌}
-use mathlib.Core.Bool.{Bool, true, false, ◌&&◌}
+use mathlib.Core.Bool.{Bool, true, ◌&&◌}
 use mathlib.Core.List.{List, [], ◌∷◌}
 use mathlib.Core.Option.{Option, none, some}
 use mathlib.Core.Path.{◌≡◌, refl, sym, ap, ◌∙◌}
@@ -10,7 +10,6 @@ use native.Mathlib.Decide.{dec_lt}
 use lib.Dec.{T, eqb, eqb→eq}
 use borrow.Author.Tests.{le-leb, lt-leb}
 use lib.ListN.{length, get_or, get_elem?}
-use Rattle.calculus.specs.Options.{test}
 use Rattle.calculus.specs.Tags.{Tag, constant_tag, leaf_tag, lambda_tag, one_tag, two_tag, if_tag, tags}
 use Rattle.calculus.specs.Tags.{TypeTag, basic_tag, reference_tag, function_tag, type_tags}
 use Rattle.calculus.specs.Reading.{tag_of, type_tag_of}

@@ -1,5 +1,5 @@
 -- What a walk over words answers: where a node ends, as calculus defines it, and a node's front by its row.
-use Rattle.std.specs.Prelude.{ℕ, zero, suc, ◌+◌, List, [], Bool, true, false, length, get_or, drop, ltb, leb, eqb}
+use Rattle.std.specs.Prelude.{ℕ, zero, suc, ◌+◌, List, Bool, true, false, length, get_or, drop, ltb, eqb}
 use Rattle.std.proofs.Math.Option.{Option, none, some}
 use Rattle.calculus.specs.Options.{◌▸◌, test}
 use Rattle.calculus.specs.Words.{words}
