@@ -53,7 +53,7 @@ pub fn seek_entry(s: &[u16], at: usize, n: usize, l: u16) -> Seek
 }
 
 // Of a section whose snapshot's count stands at `at`: where its local store's count, its expression and its end stand.
-#[derive(Drop)]
+#[derive(Clone, Copy)]
 pub struct Parts {
     pub local: usize,
     pub expression: usize,

@@ -1,0 +1,9 @@
+use Rattle.std.proofs.Common.{◌-◌}
+use Rattle.image.proofs.Locations.{KeyWalk}
+use Rattle.image.proofs.taken.keys_of_store.Given as goal
+
+abbrev pub invariant-loop-i : goal.invariant-loop-i
+invariant-loop-i l = KeyWalk l.s l.at l.n l.initial.all l.all l.p l.i
+
+abbrev pub decreases-loop-i : goal.decreases-loop-i
+decreases-loop-i l = l.n - l.i
