@@ -1,33 +1,32 @@
 -- One step: the section found, the place of work found in it, and the redex worked off by the rule of its tag.
 use Prim.Native.Nat.{ℕ, ◌+◌, ◌<◌, ◌≤◌}
 use mathlib.Core.Path.{◌≡◌, refl, sym, ap, ◌∙◌, subst}
-use mathlib.Core.Bool.{Bool, true, false}
-use mathlib.Core.List.{List, [], ◌∷◌, ◌++◌}
-use mathlib.Core.Option.{Option, none, some}
+use mathlib.Core.Bool.{true, false}
+use mathlib.Core.List.{List, ◌∷◌, ◌++◌}
+use mathlib.Core.Option.{Option, some}
 use native.Mathlib.Omega.{arith}
 use lib.ListN.{length, get_or}
 use Rattle.calculus.specs.Maps.{get}
-use Rattle.calculus.specs.Tags.{Tag, tag_word}
 use Rattle.calculus.specs.Words.{words}
 use Rattle.calculus.specs.States.{Task, State}
 use Rattle.calculus.specs.Images.{entries, counted, cell_words, task_words, image, Listed, Valid, ValidTask, ValidImage}
-use Rattle.calculus.specs.Redexes.{Redex, expression_at}
+use Rattle.calculus.specs.Redexes.{Redex}
 use Rattle.calculus.specs.Places.{Context, Place, is_value, works_at, stuck_at, place}
-use Rattle.calculus.specs.Steps.{act, step_at, step_of, step}
+use Rattle.calculus.specs.Steps.{step_at, step_of, step}
 use Rattle.calculus.proofs.Places.{place_decomposed}
 use Rattle.calculus.proofs.Validity.{listed_rising}
 use Rattle.image.specs.declared.parts.Seek.{Seek}
 use Rattle.image.specs.declared.parts.Parts.{Parts}
 use Rattle.image.specs.Standing.{Stands}
-use Rattle.image.specs.Cuts.{before, beyond, hits, seek_of, Cut, PartsAt}
+use Rattle.image.specs.Cuts.{before, beyond, PartsAt}
 use Rattle.image.proofs.Standing.{headed, stands_left, stands_right, stands_at, stands_as}
-use Rattle.image.proofs.Seeking.{before_onward, Hit, hit, miss_get, entries_append}
+use Rattle.image.proofs.Seeking.{before_onward, hit, miss_get, entries_append}
 use Rattle.place.specs.declared.Spot.{Spot}
 use Rattle.place.specs.declared.Spot.TheVariants.{Value, RedexAt, StuckAt}
 use Rattle.place.specs.Search.{prefix, spot_of, Placed}
 use Rattle.rules.specs.declared.site.Site.{Site}
 use Rattle.rules.specs.declared.site.Act.{Act}
-use Rattle.rules.specs.declared.site.Act.TheVariants.{To, No}
+use Rattle.rules.specs.declared.site.Act.TheVariants.{No}
 use Rattle.rules.specs.Work.{Work, Working, Acted, Acts}
 use Rattle.rules.specs.Sections.{Finds}
 use Rattle.rules.specs.Advancing.{Section, LiveAt, StepsAt, Steps}

@@ -1,11 +1,9 @@
 -- apply: where the lambda's type, its body and the value stand, and the body with the value put in.
-use Prim.Native.Nat.{ℕ, ◌+◌, ◌≤◌}
-use mathlib.Core.Path.{◌≡◌, refl, sym, ap, ◌∙◌, subst}
-use mathlib.Core.List.{List, [], ◌∷◌, ◌++◌}
-use mathlib.Core.Option.{none, some}
+use Prim.Native.Nat.{ℕ, ◌+◌}
+use mathlib.Core.Path.{◌≡◌, refl, sym, ap, ◌∙◌}
+use mathlib.Core.List.{List, ◌++◌}
 use native.Mathlib.Omega.{arith}
 use lib.ListN.{length, get_or, length-append}
-use Rattle.calculus.specs.Types.{ScriptType}
 use Rattle.calculus.specs.Expressions.{apply, Expression}
 use Rattle.calculus.specs.Tags.{two_tag}
 use Rattle.calculus.specs.Words.{type_words, words}

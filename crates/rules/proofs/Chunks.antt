@@ -1,28 +1,23 @@
 -- An image in chunks around the redex of a revision at work: what stands where, and the next image in the same chunks.
-use Prim.Native.Nat.{ℕ, zero, suc, ◌+◌, ◌-◌, ◌<◌, ◌≤◌}
+use Prim.Native.Nat.{ℕ, suc, ◌+◌, ◌<◌, ◌≤◌}
 use mathlib.Core.Path.{◌≡◌, refl, sym, ap, ap₂, ◌∙◌, subst}
 use mathlib.Core.List.{List, [], ◌∷◌, ◌++◌, append_assoc, append-nil}
-use mathlib.Core.Option.{Option, none, some}
 use native.Mathlib.Omega.{arith}
-use lib.ListN.{length, get_or, drop, length-append}
-use lib.Dec.{eqb, ltb}
-use borrow.Author.Tests.{le-ltb, lt-ltb, eq-eqb, ne_eqb}
-use Rattle.calculus.specs.Maps.{Map, get, put, Above, Rising}
+use lib.ListN.{length, get_or, length-append}
+use Rattle.calculus.specs.Maps.{Map, put}
 use Rattle.calculus.specs.Expressions.{Expression}
 use Rattle.calculus.specs.Words.{words}
-use Rattle.calculus.specs.Stores.{Cell, Store}
+use Rattle.calculus.specs.Stores.{Store}
 use Rattle.calculus.specs.States.{Task, State}
-use Rattle.calculus.specs.Images.{entries, counted, cell_words, task_words, image, Listed, Valid, ValidCell, ValidTask}
+use Rattle.calculus.specs.Images.{entries, counted, cell_words, task_words, image, Listed, ValidCell, ValidTask}
 use Rattle.calculus.specs.Redexes.{Redex, expression_at}
 use Rattle.calculus.specs.Places.{Context, plug}
 use Rattle.calculus.specs.Rules.{become}
 use Rattle.calculus.proofs.Places.{decomposed_plug}
-use Rattle.calculus.proofs.Validity.{listed_get, listed_rising}
-use Rattle.calculus.proofs.Maps.{get_head}
-use Rattle.image.specs.Standing.{Stands, EndsAt}
+use Rattle.image.specs.Standing.{Stands}
 use Rattle.image.proofs.Seeking.{entries_append}
 use Rattle.image.proofs.Around.{Below, put_here}
-use Rattle.image.proofs.Standing.{Headed, headed, stands_left, stands_right, stands_at, stands_as, stands_fits}
+use Rattle.image.proofs.Standing.{headed, stands_left, stands_right, stands_at, stands_as}
 use Rattle.place.specs.Search.{prefix, suffix}
 use Rattle.place.proofs.Contexts.{words_plug}
 use Rattle.write.specs.Cursor.{part}

@@ -1,15 +1,15 @@
 -- fork: the child's section among words, the new number, and the image with the child.
-use Prim.Native.Nat.{ℕ, suc, ◌+◌, ◌-◌, ◌<◌, ◌≤◌}
-use mathlib.Core.Path.{◌≡◌, refl, sym, ap, ap₂, ◌∙◌, subst}
+use Prim.Native.Nat.{ℕ, ◌+◌, ◌<◌, ◌≤◌}
+use mathlib.Core.Path.{◌≡◌, refl, sym, ap, ap₂, ◌∙◌}
 use mathlib.Core.Logic.{◌≢◌}
 use mathlib.Core.Bool.{Bool, true, false, cond, ◌||◌}
 use mathlib.Core.List.{List, [], ◌∷◌, ◌++◌, append_assoc}
-use mathlib.Core.Option.{Option, none, some}
+use mathlib.Core.Option.{none, some}
 use native.Mathlib.Omega.{arith}
 use lib.ListN.{length, get_or, length-append}
 use lib.Dec.{eqb, ltb}
 use borrow.Author.Tests.{le-ltb, lt-ltb, eq-eqb, ne_eqb}
-use Rattle.calculus.specs.Maps.{Map, put}
+use Rattle.calculus.specs.Maps.{put}
 use Rattle.calculus.specs.Expressions.{revision, fork, Expression, leaf}
 use Rattle.calculus.specs.Tags.{one_tag}
 use Rattle.calculus.specs.Words.{words}
@@ -29,22 +29,22 @@ use Rattle.image.specs.declared.parts.Seek.{Seek}
 use Rattle.image.specs.declared.fresh.Number.{Number}
 use Rattle.image.specs.declared.fresh.Number.TheVariants as number
 use Rattle.image.specs.Standing.{Stands, EndsAt}
-use Rattle.image.specs.Cuts.{before, onward, beyond, hits}
+use Rattle.image.specs.Cuts.{before, beyond, hits}
 use Rattle.image.specs.Fresh.{as_option, NewRevision}
 use Rattle.image.proofs.Standing.{headed, stands_left, stands_right, stands_at, stands_as}
 use Rattle.image.proofs.Seeking.{before_onward, put_cut, miss_onward, entries_append}
 use Rattle.image.proofs.Around.{put_here, put_left, put_right, before_left, before_right, hits_left, hits_right}
 use Rattle.image.proofs.Around.{hits_past}
-use Rattle.place.specs.Search.{prefix, suffix}
+use Rattle.place.specs.Search.{suffix}
 use Rattle.words.proofs.Ends.{words_long}
 use Rattle.write.specs.Cursor.{part, Wrote}
 use Rattle.write.proofs.Cursors.{part_stands, wrote_as, wrote_size, then}
 use Rattle.rules.specs.declared.site.Site.{Site}
 use Rattle.rules.specs.declared.site.Act.TheVariants.{To, No}
 use Rattle.rules.specs.declared.fork.Child.{Child}
-use Rattle.rules.specs.Work.{Work, Working, Acted, Acts}
+use Rattle.rules.specs.Work.{Work, Acted, Acts}
 use Rattle.rules.specs.Sections.{Finds, WroteOverlaid}
-use Rattle.rules.specs.Forks.{Forkable, StoresAt, child_words, with, WroteChild, WroteWith, WroteForked}
+use Rattle.rules.specs.Forks.{StoresAt, child_words, with, WroteChild, WroteWith, WroteForked}
 use Rattle.rules.proofs.Chunks.{task_words_lem, snapshot_stands, local_stands, redex_stands, me_valid, below, size}
 use Rattle.rules.proofs.Chunks.{count_is, front, section_around, place_is, section_ends, rest_stands, part_rest}
 use Rattle.rules.proofs.Redexes.{Is, is_forking, redex_is}

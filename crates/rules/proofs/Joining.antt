@@ -3,8 +3,8 @@ use Prim.Native.Nat.{ℕ, suc, ◌+◌, ◌-◌, ◌<◌, ◌≤◌}
 use mathlib.Core.Path.{◌≡◌, refl, sym, ap, ap₂, ◌∙◌, subst}
 use mathlib.Core.Logic.{◌≢◌}
 use mathlib.Core.Bool.{Bool, true, false, cond, not}
-use mathlib.Core.List.{List, [], ◌∷◌, ◌++◌, append_assoc, append-nil}
-use mathlib.Core.Option.{Option, none, some}
+use mathlib.Core.List.{List, [], ◌∷◌, ◌++◌, append_assoc}
+use mathlib.Core.Option.{none, some}
 use native.Mathlib.Omega.{arith}
 use lib.ListN.{length, get_or, length-append}
 use lib.Dec.{eqb}
@@ -13,10 +13,9 @@ use Rattle.calculus.specs.Expressions.{unit, join, Expression, constant, leaf, l
 use Rattle.calculus.specs.Tags.{one_tag}
 use Rattle.calculus.specs.Words.{words}
 use Rattle.calculus.specs.Formed.{value}
-use Rattle.calculus.specs.Stores.{Cell}
 use Rattle.calculus.specs.States.{Task, State, absorbed}
 use Rattle.calculus.specs.Images.{entries, counted, cell_words, task_words, image, Valid, ValidCell, ValidTask}
-use Rattle.calculus.specs.Redexes.{Redex, joining, expression_at}
+use Rattle.calculus.specs.Redexes.{Redex, joining}
 use Rattle.calculus.specs.Places.{Context, plug}
 use Rattle.calculus.specs.Rules.{become}
 use Rattle.calculus.specs.Steps.{act}
@@ -42,7 +41,7 @@ use Rattle.rules.specs.declared.site.Act.{Act}
 use Rattle.rules.specs.declared.site.Act.TheVariants.{To, No}
 use Rattle.rules.specs.Work.{Work, Working, Acted, Acts}
 use Rattle.rules.specs.Sections.{Finds, but, Joinable, WroteJoined}
-use Rattle.rules.proofs.Chunks.{stands_all, image_put, task_words_lem, plugged, redex_stands, local_stands, me_valid}
+use Rattle.rules.proofs.Chunks.{stands_all, image_put, task_words_lem, redex_stands, local_stands, me_valid}
 use Rattle.rules.proofs.Chunks.{below, size, count_is, sections_stand, section_ends, rest_stands, part_prefix}
 use Rattle.rules.proofs.Chunks.{part_rest}
 use Rattle.rules.proofs.Redexes.{Is, is_joining, redex_is}

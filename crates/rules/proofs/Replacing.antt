@@ -7,7 +7,7 @@ use mathlib.Core.Option.{Option, none, some}
 use native.Mathlib.Omega.{arith}
 use lib.ListN.{length, get_or, length-append}
 use Rattle.calculus.specs.Maps.{get, put}
-use Rattle.calculus.specs.Expressions.{bool, read, Arithmetic, add, subtract, less, arithmetic, Expression, constant}
+use Rattle.calculus.specs.Expressions.{bool, read, Arithmetic, add, subtract, less, arithmetic, Expression}
 use Rattle.calculus.specs.Tags.{constant_tag, one_tag, two_tag, if_tag, tag_word}
 use Rattle.calculus.specs.Words.{words}
 use Rattle.calculus.specs.Formed.{Formed}
@@ -15,7 +15,7 @@ use lib.Signed.{lt_z}
 use Rattle.calculus.specs.Numbers.{choose, signed, calculated}
 use Rattle.calculus.specs.Stores.{Cell, plain, content}
 use Rattle.calculus.specs.States.{Task, State, view}
-use Rattle.calculus.specs.Images.{cell_words, image, ValidCell, ValidTask}
+use Rattle.calculus.specs.Images.{ValidCell, ValidTask}
 use Rattle.calculus.specs.Redexes.{Redex, choosing, reading, calculating, expression_at}
 use Rattle.calculus.specs.Places.{Context, plug}
 use Rattle.calculus.specs.Rules.{become}
@@ -23,7 +23,7 @@ use Rattle.calculus.specs.Steps.{Outcome, next, by_location, with_cell, act}
 use Rattle.calculus.proofs.Maps.{or_else, get_overlaid}
 use Rattle.calculus.proofs.Validity.{listed_get}
 use Rattle.image.specs.Standing.{Stands, EndsAt}
-use Rattle.image.proofs.Standing.{headed, stands_left, stands_right, stands_at, stands_fits}
+use Rattle.image.proofs.Standing.{headed, stands_left, stands_right, stands_at}
 use Rattle.image.specs.declared.parts.Value.{Value}
 use Rattle.image.specs.declared.parts.Value.TheVariants as value
 use Rattle.image.specs.Cuts.{CellAt, Found}
@@ -33,7 +33,7 @@ use Rattle.rules.specs.declared.site.Site.{Site}
 use Rattle.rules.specs.declared.site.Act.TheVariants.{To, No}
 use Rattle.rules.specs.Work.{Work, Acted, Acts}
 use Rattle.rules.specs.Results.{WroteResult}
-use Rattle.rules.proofs.Chunks.{plugged, snapshot_stands, local_stands, redex_stands, me_valid, size}
+use Rattle.rules.proofs.Chunks.{plugged, snapshot_stands, local_stands, redex_stands, me_valid}
 use Rattle.rules.proofs.Chunks.{replaced_image}
 use Rattle.rules.proofs.Redexes.{Is, is_choosing, is_reading, is_calculating, redex_is, formed_in}
 use Rattle.rules.proofs.Redexes.{Calculating, calculating_is}

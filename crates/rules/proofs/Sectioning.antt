@@ -1,14 +1,12 @@
 -- The place of a section, two stores overlaid, and words with a section left out.
 use Prim.Native.Nat.{ℕ, ◌+◌, ◌-◌, ◌<◌, ◌≤◌}
-use mathlib.Core.Path.{◌≡◌, refl, sym, ap, ◌∙◌, subst}
-use mathlib.Core.List.{List, [], ◌∷◌, ◌++◌, append-nil}
+use mathlib.Core.Path.{◌≡◌, refl, sym, ap, ◌∙◌}
+use mathlib.Core.List.{List, [], ◌∷◌, ◌++◌}
 use native.Mathlib.Omega.{arith}
 use lib.ListN.{length, get_or}
 use borrow.Author.Tests.{le-ltb, lt-ltb}
-use Rattle.calculus.specs.Images.{entries, counted, cell_words, task_words, image, ValidTask}
-use Rattle.calculus.specs.States.{State}
+use Rattle.calculus.specs.Images.{entries, task_words, image, ValidTask}
 use Rattle.image.specs.declared.parts.Seek.{Seek}
-use Rattle.image.specs.Standing.{Stands}
 use Rattle.image.specs.Cuts.{Seeks}
 use Rattle.image.proofs.Standing.{headed, stands_at}
 use Rattle.write.specs.Cursor.{part, Wrote}

@@ -1,6 +1,6 @@
 -- assign and ref: the words up to the local store, that store with one entry put, and the expression with the result.
-use Prim.Native.Nat.{ℕ, ◌+◌, ◌≤◌}
-use mathlib.Core.Path.{◌≡◌, refl, sym, ap, ap₂, ◌∙◌, subst}
+use Prim.Native.Nat.{ℕ, ◌+◌}
+use mathlib.Core.Path.{◌≡◌, refl, sym, ap, ◌∙◌, subst}
 use mathlib.Core.List.{List, [], ◌∷◌, ◌++◌, append_assoc}
 use mathlib.Core.Option.{Option, none, some}
 use native.Mathlib.Omega.{arith}
@@ -17,7 +17,7 @@ use Rattle.calculus.specs.Redexes.{Redex, making, assigning, expression_at}
 use Rattle.calculus.specs.Places.{Context, plug}
 use Rattle.calculus.specs.NewNumbers.{new_location}
 use Rattle.calculus.specs.Rules.{become}
-use Rattle.calculus.specs.Steps.{Outcome, next, by_location, with_cell, with_new, act}
+use Rattle.calculus.specs.Steps.{act}
 use Rattle.image.specs.Standing.{Stands, EndsAt}
 use Rattle.image.proofs.Standing.{headed, stands_at}
 use Rattle.image.specs.declared.parts.Value.{Value}
@@ -35,7 +35,7 @@ use Rattle.image.specs.Fresh.{as_option, NewLocation}
 use Rattle.rules.specs.Work.{Work, Working, Acted, Acts}
 use Rattle.rules.specs.Putting.{PutPlace, WroteStored, MakesAs}
 use Rattle.rules.proofs.Chunks.{snapshot_stands, local_stands, redex_stands, me_valid, part_front}
-use Rattle.rules.proofs.Chunks.{part_prefix, part_rest, next_image, Bounds, bounds}
+use Rattle.rules.proofs.Chunks.{part_prefix, part_rest, next_image, bounds}
 use Rattle.rules.proofs.Redexes.{Is, is_making, is_assigning, redex_is}
 use Rattle.rules.proofs.Replacing.{redex_formed}
 

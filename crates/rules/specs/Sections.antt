@@ -1,5 +1,5 @@
 -- What join and fork write: sections left out or put in, and stores overlaid.
-use Rattle.std.specs.Prelude.{ℕ, ◌+◌, ◌-◌, ◌≤◌, ◌<◌, ◌≡◌, cond, List, [], ◌∷◌, ◌++◌, length, get_or, ltb}
+use Rattle.std.specs.Prelude.{ℕ, ◌+◌, ◌-◌, ◌≤◌, ◌<◌, ◌≡◌, cond, List, ◌∷◌, ◌++◌, length, get_or, ltb}
 use Rattle.calculus.specs.Maps.{overlaid}
 use Rattle.calculus.specs.Stores.{Store}
 use Rattle.calculus.specs.States.{State}

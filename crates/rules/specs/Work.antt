@@ -2,9 +2,9 @@
 use Rattle.std.specs.Prelude.{ℕ, ◌+◌, ◌≡◌, List, ◌∷◌, ◌++◌, length, get_or}
 use Rattle.calculus.specs.States.{Task, State}
 use Rattle.calculus.specs.Images.{entries, counted, cell_words, task_words, image, Valid}
-use Rattle.calculus.specs.Redexes.{Redex, expression_at}
-use Rattle.calculus.specs.Places.{Context, plug, Decomposed}
-use Rattle.calculus.specs.Steps.{Reason, by_shape, by_location, Outcome, next, emptied, finished, waits, stuck}
+use Rattle.calculus.specs.Redexes.{Redex}
+use Rattle.calculus.specs.Places.{Context, Decomposed}
+use Rattle.calculus.specs.Steps.{by_shape, by_location, Outcome, next, emptied, finished, waits, stuck}
 use Rattle.calculus.specs.Steps.{not_live, no_number, act}
 use Rattle.place.specs.Search.{prefix}
 use Rattle.write.specs.Cursor.{Wrote}

@@ -10,7 +10,7 @@ use image::nodes::{past, word_at};
 use write::cursor::{copy_part, put_word};
 
 // A section to be made: its number, where it goes, and from where to where its expression stands.
-#[derive(Drop)]
+#[derive(Clone, Copy)]
 pub struct Child {
     pub revision: u16,
     pub at: usize,

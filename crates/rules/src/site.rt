@@ -1,7 +1,7 @@
 // Where a revision works, and what a rule answers.
 
 // Of revision `revision`: where its snapshot's count, its local store's count and its expression start, and its redex.
-#[derive(Drop)]
+#[derive(Clone, Copy)]
 pub struct Site {
     pub revision: u16,
     pub snapshot: usize,

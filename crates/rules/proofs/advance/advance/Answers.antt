@@ -1,0 +1,9 @@
+-- src/advance.rt:79:9
+use Rattle.rules.proofs.Advancing.{image_long, steps_gone}
+use Rattle.rules.proofs.advance.advance.Goals as goal
+
+pub find_section-k-requires : goal.find_section-k-requires
+find_section-k-requires c = search image_long
+
+pub returns : goal.returns
+returns c = search steps_gone

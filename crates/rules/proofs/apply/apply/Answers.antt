@@ -1,0 +1,6 @@
+-- src/apply.rt:29:24
+use Rattle.rules.proofs.Applying.{apply_done}
+use Rattle.rules.proofs.apply.apply.Goals as goal
+
+pub returns : goal.returns
+returns c = search apply_done

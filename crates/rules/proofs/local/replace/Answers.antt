@@ -1,0 +1,6 @@
+-- src/local.rt:26:9
+use Rattle.rules.proofs.Replacing.{then3}
+use Rattle.rules.proofs.local.replace.Goals as goal
+
+pub returns : goal.returns
+returns c = search then3

@@ -1,0 +1,12 @@
+-- src/stores.rt:33:24
+use Rattle.rules.proofs.Storing.{put_place, assign_nothing, assign_done}
+use Rattle.rules.proofs.stores.assign.Goals as goal
+
+pub returns-in_default : goal.returns-in_default
+returns-in_default c = search assign_nothing
+
+pub stored-x-requires : goal.stored-x-requires
+stored-x-requires c = search put_place
+
+pub returns : goal.returns
+returns c = search assign_done

@@ -1,0 +1,6 @@
+-- src/stores.rt:67:25
+use Rattle.rules.proofs.Storing.{make_none}
+use Rattle.rules.proofs.stores.make.Goals as goal
+
+pub returns-in_default : goal.returns-in_default
+returns-in_default c = search make_none

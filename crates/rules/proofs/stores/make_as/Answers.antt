@@ -1,0 +1,9 @@
+-- src/stores.rt:51:13
+use Rattle.rules.proofs.Storing.{put_place, make_done}
+use Rattle.rules.proofs.stores.make_as.Goals as goal
+
+pub stored-x-requires : goal.stored-x-requires
+stored-x-requires c = search put_place
+
+pub returns : goal.returns
+returns c = search make_done
