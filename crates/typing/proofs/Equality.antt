@@ -9,7 +9,6 @@ use lib.ListN.{length, get_or, drop, length-append}
 use lib.Seq.{ext_get_or}
 use borrow.Author.Count.{below_more}
 use Rattle.typing.specs.declared.types.Head.{Head}
-use Rattle.calculus.specs.Expressions.{two, one}
 use Rattle.calculus.specs.Tags.{type_tag_word, basic_tag}
 use Rattle.calculus.specs.Types.{basic, Basic, unit_type, bool_type, num_type, rev_type, ScriptType, reference, function}
 use Rattle.calculus.specs.Words.{type_words}

@@ -7,14 +7,12 @@ use native.Mathlib.Omega.{arith}
 use lib.ListN.{set, length, length-append}
 use lib.Seq.{sets}
 use Rattle.typing.specs.declared.types.Head.{Head}
-use Rattle.calculus.specs.Expressions.{less}
 use Rattle.calculus.specs.Types.{ScriptType, basic, reference, function}
 use Rattle.calculus.specs.Words.{type_words}
 use Rattle.typing.specs.Held.{HeadIs, Named, Means, Headed}
 use Rattle.typing.specs.Writing.{WroteHead, head_words, WroteType}
 use Rattle.typing.proofs.Copies.{sets_append}
 use Rattle.typing.proofs.Ends.{basic_36}
-use Rattle.typing.proofs.Fronts.{front}
 
 module _ (s : List ℕ) (h : Head) (o : List ℕ) (to : ℕ) where
   pub wrote_word : (o₁ : List ℕ) → (h.word ≡ 37 → ⊥) → o₁ ≡ set o to h.word → WroteHead s h o to (to + 1) o₁

@@ -6,7 +6,7 @@ use crate::buffers::{equal, word_at};
 use words::walk::{Walk, type_end};
 
 // A type's first word, where its argument stands if it is a function's, and where the rest of it is held.
-#[derive(Drop)]
+#[derive(Clone, Copy)]
 pub struct Head {
     pub word: u16,
     pub argument: u16,

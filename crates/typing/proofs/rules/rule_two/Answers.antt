@@ -1,0 +1,12 @@
+-- `typing::rules::rule_two` meets its contract: one law for each way through it.
+use Rattle.typing.proofs.Rulings.{two_no, two_yes, two_unlike}
+use Rattle.typing.proofs.rules.rule_two.Goals as goal
+
+pub returns-then-head-asked : goal.returns-then-head-asked
+returns-then-head-asked c = search two_no
+
+pub returns-then-same : goal.returns-then-same
+returns-then-same c = search two_yes
+
+pub returns-else-same : goal.returns-else-same
+returns-else-same c = search two_unlike
