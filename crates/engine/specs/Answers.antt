@@ -1,6 +1,5 @@
 -- The number and the length of each case of the answers (01, "What comes back").
 use Rattle.std.specs.Prelude.{ℕ}
-use Rattle.engine.specs.declared.answers.Reason.{Reason}
 use Rattle.engine.specs.declared.answers.Reason.TheVariants.{Shape, Location}
 use Rattle.engine.specs.declared.answers.Stepped.{Stepped}
 use Rattle.engine.specs.declared.answers.Stepped.TheVariants as stepped
