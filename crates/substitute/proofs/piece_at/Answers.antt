@@ -6,6 +6,13 @@ use Rattle.substitute.proofs.Pieces.{piece_other_word, piece_other_tag}
 use Rattle.substitute.proofs.piece_at.Goals as goal
 use Rattle.substitute.proofs.piece_at.Goals.{then-word_at-x+else-tag-eq4+else-tag-eq7, else-word_at-x}
 
+pub returns : goal.returns
+returns c =
+    elim c.if-word_at-x.branch [
+      | then-word_at-x+else-tag-eq4+else-tag-eq7 w ↦ search piece_other_tag
+      | else-word_at-x w ↦ search piece_other_word
+    ]
+
 pub returns-in_default : goal.returns-in_default
 returns-in_default c = search piece_wrong
 
@@ -27,10 +34,3 @@ types_end-requires c =
 
 pub returns-in_default-types_end : goal.returns-in_default-types_end
 returns-in_default-types_end c = search piece_broken
-
-pub returns : goal.returns
-returns c =
-    elim c.if-word_at-x.branch [
-      | then-word_at-x+else-tag-eq4+else-tag-eq7 w ↦ search piece_other_tag
-      | else-word_at-x w ↦ search piece_other_word
-    ]
