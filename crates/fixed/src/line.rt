@@ -1,10 +1,9 @@
 // Prints the line of an example: a name, the example's words, a colon, and what comes back.
-use libc::STDOUT_FILENO;
+use std::io;
 
 // A space and the word.
-pub fn print(word: u16) {
-    io::write_all(STDOUT_FILENO, b" ");
-    io::print_decimal(STDOUT_FILENO, word as u64);
+pub fn print(rt: &impl Print, word: u16) -> io::Result<()> {
+    print!(rt; " {word}")
 }
 
 // The number without its sign.
@@ -17,30 +16,31 @@ fn magnitude(number: i32) -> u64 {
 }
 
 // A space and the number, with its sign if it is negative.
-pub fn print_signed(number: i32) {
-    io::write_all(STDOUT_FILENO, b" ");
+pub fn print_signed(rt: &impl Print, number: i32) -> io::Result<()> {
+    rt.write_all(b" ")?;
     if number < 0 {
-        io::write_all(STDOUT_FILENO, b"-");
+        rt.write_all(b"-")?;
     }
-    io::print_decimal(STDOUT_FILENO, magnitude(number));
+    rt.print(magnitude(number))
 }
 
 // Each of the words after a space.
-pub fn print_all(words: &[u16]) {
+pub fn print_all(rt: &impl Print, words: &[u16]) -> io::Result<()> {
     let mut i = 0;
     while i < words.len() {
-        print(words[i]);
+        print(rt, words[i])?;
         i += 1;
     }
+    Ok(())
 }
 
 // What comes before the answer.
-pub fn begin(name: &[u8], words: &[u16]) {
-    io::write_all(STDOUT_FILENO, name);
-    print_all(words);
-    io::write_all(STDOUT_FILENO, b" :");
+pub fn begin(rt: &impl Print, name: &[u8], words: &[u16]) -> io::Result<()> {
+    rt.write_all(name)?;
+    print_all(rt, words)?;
+    rt.write_all(b" :")
 }
 
-pub fn end() {
-    io::write_all(STDOUT_FILENO, b"\n");
+pub fn end(rt: &impl Print) -> io::Result<()> {
+    rt.write_all(b"\n")
 }
