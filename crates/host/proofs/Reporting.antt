@@ -11,7 +11,6 @@ use Rattle.calculus.specs.Answers.{Report, marks_of, report_from, report_answer}
 use Rattle.words.proofs.Marks.{tally_few, marks_of_length}
 use Rattle.image.specs.declared.report.Reported.{Reported}
 use Rattle.image.specs.Reports.{report_of}
-use Rattle.host.specs.declared.PulleyrushReport.{PulleyrushReport}
 use Rattle.host.specs.Host.{bits, Reports}
 
 pub record Small (n : ℕ) : Type 0 where

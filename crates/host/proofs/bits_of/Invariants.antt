@@ -1,0 +1,8 @@
+use Rattle.host.proofs.Bits.{Down}
+use Rattle.host.proofs.bits_of.Given as goal
+
+abbrev pub invariant-loop-i : goal.invariant-loop-i
+invariant-loop-i l = Down l.marks l.m l.i
+
+abbrev pub decreases-loop-i : goal.decreases-loop-i
+decreases-loop-i l = l.i
