@@ -1,4 +1,5 @@
-// The C functions: load, step, run, check and report over lent buffers, with the paper's numbers as answers.
+// What C is offered: load, step, run, check and report over lent buffers, with the paper's numbers as answers.
+// The crate host_c exports each of these functions under its own name.
 #![tactic(auto)]
 
 ghost use Rattle.std.specs.Prelude.{◌≡◌, ◌+◌, ◌≤◌, length, drop};
@@ -143,12 +144,7 @@ fn checked(a: Checked) -> PulleyrushAnswer
     }
 }
 
-#[unsafe(no_mangle)]
-pub extern "C" fn pulleyrush_load(
-    script: &[u16],
-    out: &mut [u16],
-    work: &mut [u16],
-) -> PulleyrushAnswer
+pub fn pulleyrush_load(script: &[u16], out: &mut [u16], work: &mut [u16]) -> PulleyrushAnswer
     ensures { Answers (load_answer script.now (length out.old) (length work.old))
         result out.old work.old out.new work.new }
 {
@@ -156,12 +152,7 @@ pub extern "C" fn pulleyrush_load(
     loaded(answer)
 }
 
-#[unsafe(no_mangle)]
-pub extern "C" fn pulleyrush_check(
-    script: &[u16],
-    out: &mut [u16],
-    work: &mut [u16],
-) -> PulleyrushAnswer
+pub fn pulleyrush_check(script: &[u16], out: &mut [u16], work: &mut [u16]) -> PulleyrushAnswer
     ensures { Answers (check_answer script.now (length out.old) (length work.old))
         result out.old work.old out.new work.new }
 {
@@ -169,8 +160,7 @@ pub extern "C" fn pulleyrush_check(
     checked(answer)
 }
 
-#[unsafe(no_mangle)]
-pub extern "C" fn pulleyrush_step(
+pub fn pulleyrush_step(
     image: &[u16],
     revision: u16,
     out: &mut [u16],
@@ -183,8 +173,7 @@ pub extern "C" fn pulleyrush_step(
     stepped(answer)
 }
 
-#[unsafe(no_mangle)]
-pub extern "C" fn pulleyrush_run(
+pub fn pulleyrush_run(
     state: &mut [u16],
     length: usize,
     picks: &[u16],
@@ -215,8 +204,7 @@ fn bits_of(marks: [bool; 64]) -> u64
     m
 }
 
-#[unsafe(no_mangle)]
-pub extern "C" fn pulleyrush_report(image: &[u16]) -> PulleyrushReport
+pub fn pulleyrush_report(image: &[u16]) -> PulleyrushReport
     ensures { Reports (report_answer image.now) result }
 {
     let found = report(image);
