@@ -1,9 +1,12 @@
 // Prints the line of an example: a name, the example's words, a colon, and what comes back.
-use std::io;
+
+// The descriptor of standard output.
+const STDOUT_FILENO: i32 = 1;
 
 // A space and the word.
-pub fn print(rt: &impl Print, word: u16) -> io::Result<()> {
-    print!(rt; " {word}")
+pub fn print(word: u16) {
+    io::write_all(STDOUT_FILENO, b" ");
+    io::print_decimal(STDOUT_FILENO, word as u64);
 }
 
 // The number without its sign.
@@ -16,31 +19,30 @@ fn magnitude(number: i32) -> u64 {
 }
 
 // A space and the number, with its sign if it is negative.
-pub fn print_signed(rt: &impl Print, number: i32) -> io::Result<()> {
-    rt.write_all(b" ")?;
+pub fn print_signed(number: i32) {
+    io::write_all(STDOUT_FILENO, b" ");
     if number < 0 {
-        rt.write_all(b"-")?;
+        io::write_all(STDOUT_FILENO, b"-");
     }
-    rt.print(magnitude(number))
+    io::print_decimal(STDOUT_FILENO, magnitude(number));
 }
 
 // Each of the words after a space.
-pub fn print_all(rt: &impl Print, words: &[u16]) -> io::Result<()> {
+pub fn print_all(words: &[u16]) {
     let mut i = 0;
     while i < words.len() {
-        print(rt, words[i])?;
+        print(words[i]);
         i += 1;
     }
-    Ok(())
 }
 
 // What comes before the answer.
-pub fn begin(rt: &impl Print, name: &[u8], words: &[u16]) -> io::Result<()> {
-    rt.write_all(name)?;
-    print_all(rt, words)?;
-    rt.write_all(b" :")
+pub fn begin(name: &[u8], words: &[u16]) {
+    io::write_all(STDOUT_FILENO, name);
+    print_all(words);
+    io::write_all(STDOUT_FILENO, b" :");
 }
 
-pub fn end(rt: &impl Print) -> io::Result<()> {
-    rt.write_all(b"\n")
+pub fn end() {
+    io::write_all(STDOUT_FILENO, b"\n");
 }

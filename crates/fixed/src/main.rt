@@ -1,5 +1,4 @@
 // Runs the worked examples that stand on standard input, and prints a line for each with what our functions answer.
-// A read or a write that fails ends the run with its error.
 //
 // The input is decimal words in at most 65,536 bytes. Any bytes that are no digits divide them, so lines are only for
 // the reader, and notes without digits may stand between. An example is KIND COUNT and then COUNT words, at most 8,192;
@@ -13,8 +12,6 @@ mod line;
 mod text;
 
 use line::{begin, end, print, print_signed};
-use std::io;
-use std::io::Read;
 use text::{first_digit, number_at, words_at};
 use words::closed::closed_end_of;
 use words::names::holds_handle;
@@ -39,43 +36,43 @@ fn load_number(script: &[u16]) -> u16 {
 }
 
 // load SCRIPT : the answer
-fn load(rt: &impl Print, example: &[u16]) -> io::Result<()> {
-    begin(rt, b"load", example)?;
-    print(rt, load_number(example))?;
-    end(rt)
+fn load(example: &[u16]) {
+    begin(b"load", example);
+    print(load_number(example));
+    end();
 }
 
 // signed W : what the word means
-fn signed_word(rt: &impl Print, example: &[u16]) -> io::Result<()> {
-    begin(rt, b"signed", example)?;
-    print_signed(rt, signed(word_at(example, 0)))?;
-    end(rt)
+fn signed_word(example: &[u16]) {
+    begin(b"signed", example);
+    print_signed(signed(word_at(example, 0)));
+    end();
 }
 
 // less A B : 1 if the first is smaller by its signed meaning, else 0
-fn less_words(rt: &impl Print, example: &[u16]) -> io::Result<()> {
-    begin(rt, b"less", example)?;
-    print(rt, less(word_at(example, 0), word_at(example, 1)) as u16)?;
-    end(rt)
+fn less_words(example: &[u16]) {
+    begin(b"less", example);
+    print(less(word_at(example, 0), word_at(example, 1)) as u16);
+    end();
 }
 
 // add A B : the sum
-fn add_words(rt: &impl Print, example: &[u16]) -> io::Result<()> {
-    begin(rt, b"add", example)?;
-    print(rt, add(word_at(example, 0), word_at(example, 1)))?;
-    end(rt)
+fn add_words(example: &[u16]) {
+    begin(b"add", example);
+    print(add(word_at(example, 0), word_at(example, 1)));
+    end();
 }
 
 // subtract A B : the difference
-fn subtract_words(rt: &impl Print, example: &[u16]) -> io::Result<()> {
-    begin(rt, b"subtract", example)?;
-    print(rt, subtract(word_at(example, 0), word_at(example, 1)))?;
-    end(rt)
+fn subtract_words(example: &[u16]) {
+    begin(b"subtract", example);
+    print(subtract(word_at(example, 0), word_at(example, 1)));
+    end();
 }
 
-fn unknown(rt: &impl Print, example: &[u16]) -> io::Result<()> {
-    begin(rt, b"unknown", example)?;
-    end(rt)
+fn unknown(example: &[u16]) {
+    begin(b"unknown", example);
+    end();
 }
 
 // The word at `at`, and 0 past the end.
@@ -85,22 +82,16 @@ fn word_at(example: &[u16], at: usize) -> u16 {
 
 // Prints the line of an example of the kind, and tells where the next example starts: at `after`, unless the kind
 // takes more words of the text from there on.
-fn answer(
-    rt: &impl Print,
-    kind: u16,
-    example: &[u16],
-    text: &[u8],
-    after: usize,
-) -> io::Result<usize> {
+fn answer(kind: u16, example: &[u16], text: &[u8], after: usize) -> usize {
     match kind {
-        0 => load(rt, example)?,
-        4 => signed_word(rt, example)?,
-        5 => less_words(rt, example)?,
-        6 => add_words(rt, example)?,
-        7 => subtract_words(rt, example)?,
-        _ => unknown(rt, example)?,
+        0 => load(example),
+        4 => signed_word(example),
+        5 => less_words(example),
+        6 => add_words(example),
+        7 => subtract_words(example),
+        _ => unknown(example),
     }
-    Ok(after)
+    after
 }
 
 // The words of an example, none read yet.
@@ -118,39 +109,32 @@ fn within(count: u16) -> usize
 }
 
 // Reads the words of an example of the kind into `example`, answers it, and tells where the next one starts.
-fn answer_words(
-    rt: &impl Print,
-    kind: u16,
-    text: &[u8],
-    at: usize,
-    example: &mut [u16],
-) -> io::Result<usize> {
+fn answer_words(kind: u16, text: &[u8], at: usize, example: &mut [u16]) -> usize {
     let after = words_at(text, at, example);
-    answer(rt, kind, example, text, after)
+    answer(kind, example, text, after)
 }
 
 // Answers the example that starts at `at`, and tells where the next one does.
-fn answer_at(rt: &impl Print, text: &[u8], at: usize) -> io::Result<usize> {
+fn answer_at(text: &[u8], at: usize) -> usize {
     let kind = number_at(text, at);
     let count = number_at(text, kind.next);
     let n = within(count.value);
     let mut space = blank();
-    answer_words(rt, kind.value, text, count.next, &mut space[..n])
+    answer_words(kind.value, text, count.next, &mut space[..n])
 }
 
 // A line for each example. None is shorter than a byte, so the count of bytes bounds the turns.
-fn answer_all(rt: &impl Print, text: &[u8]) -> io::Result<()> {
+fn answer_all(text: &[u8]) {
     let mut left = text.len();
     let mut at = first_digit(text, 0);
     while 0 < left && at < text.len() {
-        at = answer_at(rt, text, at)?;
+        at = answer_at(text, at);
         left -= 1;
     }
-    Ok(())
 }
 
-fn main(rt: HostRuntime) -> io::Result<()> {
-    let mut input = Vec::new(rt.alloc());
-    rt.reader().take(65536).read_to_end(&mut input)?;
-    answer_all(&rt, &input)
+fn main() {
+    let mut input = io::large_buffer();
+    let n = io::read_full(0, &mut input);
+    answer_all(&input[..n]);
 }

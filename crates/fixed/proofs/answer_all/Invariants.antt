@@ -2,4 +2,4 @@
 use Rattle.fixed.proofs.answer_all.Given as goal
 
 abbrev pub decreases-loop-left : goal.decreases-loop-left
-decreases-loop-left g l = l.left
+decreases-loop-left l = l.left
