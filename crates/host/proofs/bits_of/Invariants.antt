@@ -1,3 +1,4 @@
+-- m has the bits of the marks from i on; the measure is i.
 use Rattle.host.proofs.Bits.{Down}
 use Rattle.host.proofs.bits_of.Given as goal
 

@@ -1,5 +1,4 @@
 -- The report's number and count fit, and the marks are the bits of a number.
--- src/lib.rt:222:9
 use Rattle.std.proofs.Common.{arith}
 use Rattle.host.proofs.Reporting.{count_small}
 use Rattle.host.proofs.pulleyrush_report.Goals as goal

@@ -1,3 +1,4 @@
+-- The place of work is that of what stands at `p`; the measure is what is left of the words.
 use Rattle.std.proofs.Common.{length, ◌-◌}
 use Rattle.place.proofs.Searching.{Going}
 use Rattle.place.proofs.place_of_work.Given as goal

@@ -1,3 +1,4 @@
+-- The places from `from` up to i are zeros; the measure is what is left of the buffer.
 use Rattle.std.proofs.Common.{length, ◌-◌}
 use Rattle.engine.proofs.Zeros.{Clearing}
 use Rattle.engine.proofs.buffers.clear.Given as goal

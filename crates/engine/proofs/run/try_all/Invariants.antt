@@ -1,3 +1,4 @@
+-- The picks up to i are tried; the measure is how many are left.
 use Rattle.std.proofs.Common.{length, ◌-◌}
 use Rattle.engine.proofs.Running.{Trying}
 use Rattle.engine.proofs.run.try_all.Given as goal

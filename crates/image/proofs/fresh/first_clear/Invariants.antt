@@ -1,3 +1,4 @@
+-- All marks before i are set; the measure is what is left of the marks.
 use Rattle.std.proofs.Common.{length, ◌-◌}
 use Rattle.image.proofs.Free.{SetBefore}
 use Rattle.image.proofs.fresh.first_clear.Given as goal

@@ -1,3 +1,4 @@
+-- The entries from `p` on hold the answer; the measure is how many are left.
 use Rattle.std.proofs.Common.{◌-◌}
 use Rattle.calculus.specs.Images.{cell_words, ValidCell}
 use Rattle.image.proofs.Seeking.{Seeking}

@@ -1,3 +1,4 @@
+-- The sections from `p` on hold the answer; the measure is how many are left.
 use Rattle.std.proofs.Common.{◌-◌}
 use Rattle.calculus.specs.Images.{task_words, ValidTask}
 use Rattle.image.proofs.Seeking.{Seeking}

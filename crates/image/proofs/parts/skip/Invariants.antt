@@ -1,3 +1,4 @@
+-- The entries still to be passed stand at `p`; the measure is how many are left.
 use Rattle.std.proofs.Common.{◌-◌}
 use Rattle.image.proofs.Seeking.{Skipping}
 use Rattle.image.proofs.parts.skip.Given as goal

@@ -1,3 +1,4 @@
+-- The sections still to be marked stand at `p`; the measure is how many are left.
 use Rattle.std.proofs.Common.{◌-◌}
 use Rattle.image.proofs.Locations.{LocationWalk}
 use Rattle.image.proofs.taken.taken_locations.Given as goal

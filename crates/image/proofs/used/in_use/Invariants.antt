@@ -1,3 +1,4 @@
+-- The sections still to be marked stand at `p`; the measure is how many are left.
 use Rattle.std.proofs.Common.{◌-◌}
 use Rattle.image.proofs.Uses.{ImageWalk}
 use Rattle.image.proofs.used.in_use.Given as goal

@@ -1,3 +1,4 @@
+-- The entries still to be marked stand at `p`; the measure is how many are left.
 use Rattle.std.proofs.Common.{◌-◌}
 use Rattle.image.proofs.Uses.{StoreWalk}
 use Rattle.image.proofs.used.uses_of_store.Given as goal

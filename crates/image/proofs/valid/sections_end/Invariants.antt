@@ -1,3 +1,4 @@
+-- The sections from `p` on are still to be read; the measure is how many are left.
 use Rattle.std.proofs.Common.{◌-◌}
 use Rattle.calculus.specs.Images.{read_task}
 use Rattle.image.proofs.Walking.{Walking}

@@ -1,4 +1,4 @@
--- src/advance.rt:79:9
+-- `advance::advance` meets its contract: an image can be searched, and a revision with no section is not live.
 use Rattle.rules.proofs.Advancing.{image_long, steps_gone}
 use Rattle.rules.proofs.advance.advance.Goals as goal
 

@@ -1,4 +1,4 @@
--- src/advance.rt:53:20
+-- `advance::step_at` meets its contract: a value, a stuck node, a redex at the place of work.
 use Rattle.std.proofs.Common.{arith, rules}
 use Rattle.rules.proofs.Advancing.{AtBound, at_bound, redex_working, step_value, step_stuck, step_redex}
 use Rattle.rules.proofs.advance.step_at.Goals as goal

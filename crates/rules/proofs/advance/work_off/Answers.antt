@@ -1,4 +1,4 @@
--- src/advance.rt:27:9
+-- `advance::work_off` meets its contract: what no rule before takes is arithmetic.
 use Rattle.rules.proofs.Advancing.{arithmetic_left}
 use Rattle.rules.proofs.advance.work_off.Goals as goal
 

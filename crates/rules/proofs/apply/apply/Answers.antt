@@ -1,4 +1,4 @@
--- src/apply.rt:29:24
+-- `apply::apply` meets its contract: one law for its one way.
 use Rattle.rules.proofs.Applying.{apply_done}
 use Rattle.rules.proofs.apply.apply.Goals as goal
 

@@ -1,4 +1,4 @@
--- src/apply.rt:17:27
+-- `apply::past_type` meets its contract: a type stands there, or none.
 use Rattle.rules.proofs.Applying.{type_there, type_missing}
 use Rattle.rules.proofs.apply.past_type.Goals as goal
 

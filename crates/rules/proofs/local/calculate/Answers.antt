@@ -1,4 +1,4 @@
--- src/local.rt:87:24
+-- `local::calculate` meets its contract: one law for its one way.
 use Rattle.rules.proofs.Replacing.{calculate_done}
 use Rattle.rules.proofs.local.calculate.Goals as goal
 

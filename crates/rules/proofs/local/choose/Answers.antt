@@ -1,4 +1,4 @@
--- src/local.rt:37:13
+-- `local::choose` meets its contract: the first branch for true, the second for false.
 use Rattle.rules.proofs.Replacing.{choose_yes, choose_no}
 use Rattle.rules.proofs.local.choose.Goals as goal
 

@@ -1,4 +1,4 @@
--- src/local.rt:69:12
+-- `local::put_result` meets its contract: less with each answer, add and subtract.
 use Rattle.rules.proofs.Replacing.{result_less_yes, result_less_no, result_add, result_subtract}
 use Rattle.rules.proofs.local.put_result.Goals as goal
 

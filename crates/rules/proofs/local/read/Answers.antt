@@ -1,4 +1,4 @@
--- src/local.rt:54:24
+-- `local::read` meets its contract: nothing in view at the location, or its value.
 use Rattle.rules.proofs.Replacing.{read_nothing, read_value}
 use Rattle.rules.proofs.local.read.Goals as goal
 

@@ -1,4 +1,4 @@
--- src/local.rt:26:9
+-- `local::replace` meets its contract: three writes in a row.
 use Rattle.rules.proofs.Replacing.{then3}
 use Rattle.rules.proofs.local.replace.Goals as goal
 

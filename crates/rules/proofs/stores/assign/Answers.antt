@@ -1,4 +1,4 @@
--- src/stores.rt:33:24
+-- `stores::assign` meets its contract: nothing in view at the location, or its entry is put.
 use Rattle.rules.proofs.Storing.{put_place, assign_nothing, assign_done}
 use Rattle.rules.proofs.stores.assign.Goals as goal
 

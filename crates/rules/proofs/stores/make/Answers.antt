@@ -1,4 +1,4 @@
--- src/stores.rt:67:25
+-- `stores::make` meets its contract: no location is left.
 use Rattle.rules.proofs.Storing.{make_none}
 use Rattle.rules.proofs.stores.make.Goals as goal
 

@@ -1,4 +1,4 @@
--- src/stores.rt:51:13
+-- `stores::make_as` meets its contract: the new entry has its place, and is put there.
 use Rattle.rules.proofs.Storing.{put_place, make_done}
 use Rattle.rules.proofs.stores.make_as.Goals as goal
 

@@ -1,4 +1,4 @@
--- src/stores.rt:21:9
+-- `stores::stored` meets its contract: one law for its one way.
 use Rattle.rules.proofs.Storing.{stored_done}
 use Rattle.rules.proofs.stores.stored.Goals as goal
 

@@ -1,3 +1,4 @@
+-- The marks, and those of the names from `p` on, are all that is wanted; the measure is what is left of the words.
 use Rattle.std.proofs.Common.{length, ◌-◌}
 use Rattle.words.proofs.Leaves.{LocationScan}
 use Rattle.words.proofs.names.locations_in.Given as goal

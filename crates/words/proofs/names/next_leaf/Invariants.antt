@@ -1,3 +1,4 @@
+-- No leaf with the tag stands between `at` and `p`; the measure is what is left of the words.
 use Rattle.std.proofs.Common.{length, ◌-◌}
 use Rattle.words.proofs.Leaves.{Passed}
 use Rattle.words.proofs.names.next_leaf.Given as goal

@@ -1,3 +1,4 @@
+-- The marks, and those of the names from `p` on, are all that is wanted, and counted; the measure is what is left.
 use Rattle.std.proofs.Common.{length, ◌-◌}
 use Rattle.words.proofs.Leaves.{RevisionScan}
 use Rattle.words.proofs.names.revisions_in.Given as goal

@@ -1,3 +1,4 @@
+-- The measure of the calls is the words from `at` on.
 use Rattle.std.proofs.Common.{length, ◌-◌}
 use Rattle.words.proofs.walk.+expressions_end.Given as goal
 

@@ -1,3 +1,4 @@
+-- The types still to come stand at `p`; the measure is what is left of the words.
 use Rattle.std.proofs.Common.{length, ◌-◌}
 use Rattle.words.proofs.Pending.{Pending}
 use Rattle.words.proofs.walk.types_end.Given as goal

@@ -1,3 +1,4 @@
+-- The words up to i are written; the measure is how many are left.
 use Rattle.std.proofs.Common.{◌-◌}
 use Rattle.write.proofs.Cursors.{Copied}
 use Rattle.write.proofs.cursor.copy_part.Given as goal

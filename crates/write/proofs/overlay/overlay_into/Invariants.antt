@@ -1,3 +1,4 @@
+-- The overlay of the entries passed is laid; the measure is how many entries are left in both stores.
 use Rattle.std.proofs.Common.{◌+◌}
 use Rattle.write.proofs.Laying.{Laid}
 use Rattle.write.proofs.overlay.overlay_into.Given as goal
