@@ -1,4 +1,5 @@
 -- `run::run` meets its contract: one law for each refusal, and every pick tried.
+use Rattle.std.proofs.Common.{rules}
 use Rattle.engine.proofs.Running.{run_no_state, run_no_work, run_no_answers, run_long, run_not_valid}
 use Rattle.engine.proofs.Running.{run_ready, run_done}
 use Rattle.engine.proofs.run.run.Goals as goal
@@ -27,7 +28,7 @@ try_all-n-requires c =
     _
     c.if-length-gt8192.false
     c.is_valid.ensures
-    (search c.if-not-is_valid.false)
+    (search rules)
 
 pub returns : goal.returns
 returns c = search run_done
