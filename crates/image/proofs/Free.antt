@@ -2,9 +2,13 @@
 use Prim.Native.Nat.{ℕ, ◌+◌, ◌≤◌, ◌<◌}
 use mathlib.Core.Bool.{Bool, true, false}
 use mathlib.Core.List.{List}
-use mathlib.Core.Option.{Option, none, some}
+use mathlib.Core.Option.{Option as Maybe, none, some}
+use Rattle.std.specs.Prelude.{Option, Some, None, not}
+use Rattle.std.specs.List.{position, position_or_len}
+use Rattle.std.proofs.lemmas.Grind.{common_steps}
+use Rattle.std.proofs.lemmas.List.Quantifiers.{position-Some}
+use Rattle.std.proofs.lemmas.List.Sums.{fails_before_first}
 use mathlib.Core.Path.{◌≡◌, refl, sym, ap, ◌∙◌}
-use native.Mathlib.Decide.{ℕ_discrete}
 use native.Mathlib.Omega.{arith}
 use lib.ListN.{length, get_or}
 use Rattle.calculus.specs.Formed.{member}
@@ -14,32 +18,22 @@ use Rattle.calculus.proofs.NewNumbers.{smallest_is, is_smallest}
 use Rattle.calculus.proofs.Places.{true≢false}
 use Rattle.words.specs.declared.names.InUse.{InUse}
 use Rattle.words.proofs.Marks.{marks_of_length, marks_of_member}
-use Rattle.image.specs.declared.fresh.Number.{Number}
-use Rattle.image.specs.declared.fresh.Number.TheVariants.{Is, No}
 use Rattle.image.specs.Marks.{ImageMarks, UsesOf}
-use Rattle.image.specs.Fresh.{FirstClear, SmallestClear, NewRevision, NewLocation}
+use Rattle.image.specs.Fresh.{as_option, SmallestClear, NewRevision, NewLocation}
 
--- the marks before i are set
-pub record SetBefore (m : List Bool) (i : ℕ) : Type 0 where
-  pub high : i ≤ length m
-  pub set : (k : ℕ) → k < i → get_or m k false ≡ true
+not_true : (b : Bool) → not b ≡ true → b ≡ false
+not_true true e = absurd cc
+not_true false e = refl
 
-pub clear_start : (m : List Bool) → SetBefore m 0
-clear_start m = record { high = omega arith; set = λ k h. absurd (omega arith) }
+not_false : (b : Bool) → not b ≡ false → b ≡ true
+not_false true e = refl
+not_false false e = absurd cc
 
-module _ (m : List Bool) (i : ℕ) (g : SetBefore m i) where
-  pub clear_here : i < length m → get_or m i false ≡ false → FirstClear m i
-  clear_here l e = record { high = g.high; set = g.set; clear = λ h. e }
-
-  pub clear_none : length m ≤ i → FirstClear m i
-  clear_none l = record { high = g.high; set = g.set; clear = λ h. absurd (omega arith) }
-
-  pub clear_next : i < length m → get_or m i false ≡ true → SetBefore m (i + 1)
-  clear_next l e = record { high = omega arith; set = λ k h. go k h (ℕ_discrete k i) }
-    where
-      go : (k : ℕ) → k < i + 1 → Dec (k ≡ i) → get_or m k false ≡ true
-      go k h (yes q) = ap (λ (j : ℕ). get_or m j false) q ∙ e
-      go k h (no d) = g.set k (omega arith)
+position-None : {X : Type 0} (p : X → Bool) (xs : List X) (k : ℕ) (d : X) → position p xs ≡ None → k < length xs
+    → p (get_or xs k d) ≡ false
+position-None p xs k d e h =
+    let inside : length xs ≤ position_or_len p xs = grind (arith, common_steps) in
+    fails_before_first p xs k d (omega arith)
 
 -- of marks of numbers that are taken
 module _ (n : ℕ) (taken : List ℕ) (m : List Bool) (e : m ≡ marks_of n 0 taken) where
@@ -54,38 +48,37 @@ module _ (n : ℕ) (taken : List ℕ) (m : List Bool) (e : m ≡ marks_of n 0 ta
       ∙ marks_of_member n 0 taken k h
       ∙ ap (λ (j : ℕ). member j taken) z)
 
-  first_smallest : (i : ℕ) → FirstClear m i → i < length m → smallest n 0 taken ≡ some i
-  first_smallest i f l =
+  place_smallest : (o : Option ℕ) → o ≡ position not m → as_option o ≡ smallest n 0 taken
+  place_smallest (Some i) p =
       let w = long in
-      is_smallest n 0 taken i
+      let (l, clear, set) = position-Some not m i false (sym p) in
+      sym
+      (is_smallest n 0 taken i
       (record {
         low = omega arith;
         high = omega arith;
-        free = mark_is i (omega arith) ∙ f.clear l;
-        least = λ k a b. mark_is k (omega arith) ∙ f.set k b;
-      })
-
-  none_smallest : (i : ℕ) → FirstClear m i → length m ≤ i → smallest n 0 taken ≡ none
-  none_smallest i f l = go (smallest n 0 taken) refl
+        free = mark_is i (omega arith) ∙ not_true (get_or m i false) clear;
+        least = λ k a b. mark_is k (omega arith) ∙ not_false (get_or m k false) (set k b);
+      }))
+  place_smallest None p = go (smallest n 0 taken) refl
     where
-      go : (o : Option ℕ) → smallest n 0 taken ≡ o → smallest n 0 taken ≡ none
-      go none p = p
-      go (some j) p =
+      go : (o : Maybe ℕ) → smallest n 0 taken ≡ o → none ≡ smallest n 0 taken
+      go none q = sym q
+      go (some j) q =
           let w = long in
-          let x = smallest_is n 0 taken p in
+          let x = smallest_is n 0 taken q in
           let h : j < n = let y = x.high in omega arith in
-          true≢false (sym (mark_is j h ∙ f.set j (omega arith)) ∙ x.free)
+          true≢false
+          (sym (mark_is j h ∙ not_false (get_or m j false) (position-None not m j false (sym p) (omega arith)))
+          ∙ x.free)
 
-pub smallest_found : (m : List Bool) (i : ℕ) → FirstClear m i → i < length m → SmallestClear m (Is i)
-smallest_found m i f l = record { free = λ n taken e. sym (first_smallest n taken m e i f l) }
-
-pub smallest_missing : (m : List Bool) (i : ℕ) → FirstClear m i → length m ≤ i → SmallestClear m No
-smallest_missing m i f l = record { free = λ n taken e. sym (none_smallest n taken m e i f l) }
+pub smallest_place : (m : List Bool) (r : Option ℕ) → r ≡ position not m → SmallestClear m r
+smallest_place m r p = record { free = λ n taken e. place_smallest n taken m e r p }
 
 -- of the marks of an image
-pub revision_found : (s : List ℕ) (u : InUse) (r : Number) → UsesOf s u → SmallestClear u.marks r → NewRevision s r
+pub revision_found : (s : List ℕ) (u : InUse) (r : Option ℕ) → UsesOf s u → SmallestClear u.marks r → NewRevision s r
 revision_found s u r g f = record { is = λ x v e. f.free 64 (taken_revisions x) (g.names.marks x v e) }
 
-pub location_found : (s : List ℕ) (m : List Bool) (r : Number) → ImageMarks taken_locations 256 s m → SmallestClear m r
+pub location_found : (s : List ℕ) (m : List Bool) (r : Option ℕ) → ImageMarks taken_locations 256 s m → SmallestClear m r
     → NewLocation s r
 location_found s m r g f = record { is = λ x v e. f.free 256 (taken_locations x) (g.marks x v e) }

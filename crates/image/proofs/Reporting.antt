@@ -8,22 +8,22 @@ use native.Mathlib.Omega.{arith}
 use Rattle.calculus.specs.States.{State}
 use Rattle.calculus.specs.Images.{state_of}
 use Rattle.calculus.specs.NewNumbers.{taken_revisions}
-use Rattle.calculus.specs.Answers.{marks_of, tally, report_from, report_answer}
+use Rattle.calculus.specs.Answers.{Report, marks_of, tally, report_from, report_answer}
 use Rattle.calculus.proofs.Images.{read_is_image}
 use Rattle.words.specs.declared.names.InUse.{InUse}
 use Rattle.words.specs.Walks.{is_there}
-use Rattle.words.specs.Names.{Clear}
-use Rattle.image.specs.declared.report.Reported.{Reported}
+use Rattle.std.specs.Prelude.{Result, Ok, Err}
+use Rattle.image.specs.declared.report.NotValid.{NotValid}
 use Rattle.image.specs.Marks.{UsesOf}
 use Rattle.image.specs.Reports.{report_of}
 
-module _ (s : List ℕ) (b : Bool) (is : b ≡ is_there (state_of s)) (u : InUse) where
-  pub report_valid : b ≡ true → UsesOf s u → report_of (record { number = 0; used = u }) ≡ report_answer s
+module _ (s : List ℕ) (b : Bool) (is : b ≡ is_there (state_of s)) where
+  pub report_valid : (u : InUse) → b ≡ true → UsesOf s u → report_of (Ok u) ≡ report_answer s
   unfolding report_answer
-  report_valid t g = go (state_of s) refl (sym is ∙ t)
+  report_valid u t g = go (state_of s) refl (sym is ∙ t)
     where
       go : (o : Option State) → state_of s ≡ o → is_there o ≡ true
-          → report_of (record { number = 0; used = u }) ≡ report_from (state_of s)
+          → report_of (Ok u) ≡ report_from (state_of s)
       go none p q = absurd (let z : ◌≡◌ {A = ℕ} 0 1 = cc in omega arith)
       go (some x) p q =
           let (e, v) = read_is_image s x p in
@@ -31,18 +31,22 @@ module _ (s : List ℕ) (b : Bool) (is : b ≡ is_there (state_of s)) (u : InUse
           let c : u.count ≡ tally (marks_of 64 0 (taken_revisions x)) = g.counted.count ∙ ap tally m in
           (λ j. record { number = 0; marks = m j; count = c j }) ∙ sym (ap report_from p)
 
-  pub report_refused : b ≡ false → Clear u → report_of (record { number = 8; used = u }) ≡ report_answer s
+  pub report_refused : b ≡ false → report_from none ≡ report_answer s
   unfolding report_answer
-  report_refused t g = go (state_of s) refl (sym is ∙ t)
+  report_refused t = go (state_of s) refl (sym is ∙ t)
     where
       go : (o : Option State) → state_of s ≡ o → is_there o ≡ false
-          → report_of (record { number = 8; used = u }) ≡ report_from (state_of s)
-      go none p q =
-          (λ j. record { number = 8; marks = g.marks j; count = g.count j }) ∙ sym (ap report_from p)
+          → report_from none ≡ report_from (state_of s)
+      go none p q = sym (ap report_from p)
       go (some x) p q = absurd (let z : ◌≡◌ {A = ℕ} 0 1 = cc in omega arith)
 
 -- the promise determines the report
-pub report_one : (s : List ℕ) (a b : Reported) → report_of a ≡ report_answer s → report_of b ≡ report_answer s → a ≡ b
-report_one s a b p q =
-    let e : report_of a ≡ report_of b = p ∙ sym q in
-    λ j. record { number = (e j).number; used = record { marks = (e j).marks; count = (e j).count } }
+pub report_one : (s : List ℕ) (a b : Result InUse NotValid) → report_of a ≡ report_answer s → report_of b ≡ report_answer s
+    → a ≡ b
+report_one s a b p q = same a b (p ∙ sym q)
+  where
+    same : (a b : Result InUse NotValid) → report_of a ≡ report_of b → a ≡ b
+    same (Ok u) (Ok v) e = λ j. Ok (record { marks = (e j).marks; count = (e j).count })
+    same (Ok u) (Err y) e = absurd (let z : ◌≡◌ {A = ℕ} 0 8 = ap (λ (r : Report). r.number) e in omega arith)
+    same (Err x) (Ok v) e = absurd (let z : ◌≡◌ {A = ℕ} 8 0 = ap (λ (r : Report). r.number) e in omega arith)
+    same (Err x) (Err y) e = refl

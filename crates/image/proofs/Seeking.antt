@@ -2,7 +2,8 @@
 use Prim.Native.Nat.{ℕ, suc, ◌+◌, ◌≤◌, ◌<◌}
 use mathlib.Core.Bool.{Bool, true, false, cond}
 use mathlib.Core.List.{List, [], ◌∷◌, ◌++◌, append_assoc}
-use mathlib.Core.Option.{Option, none, some}
+use mathlib.Core.Option.{Option as Maybe, none, some}
+use Rattle.std.specs.Prelude.{Some, None, Result, Ok, Err}
 use mathlib.Core.Path.{◌≡◌, refl, sym, ap, ◌∙◌, subst}
 use native.Mathlib.Omega.{arith}
 use lib.Dec.{eqb, ltb}
@@ -16,11 +17,9 @@ use Rattle.calculus.specs.Images.{entries, counted, cell_words, task_words, List
 use Rattle.calculus.proofs.Maps.{Tri, below, same, above, tri, or_else, get_overlaid, above_rising, get_above}
 use Rattle.calculus.proofs.Maps.{get_tail, get_none}
 use Rattle.calculus.proofs.Validity.{listed_rising}
-use Rattle.image.specs.declared.parts.Seek.{Seek}
 use Rattle.image.specs.declared.parts.Parts.{Parts}
-use Rattle.image.specs.declared.parts.Value.TheVariants.{From, No}
 use Rattle.image.specs.Standing.{Stands, EndsAt}
-use Rattle.image.specs.Cuts.{before, onward, beyond, hits, Skips, seek_of, Seeks, PartsAt, CellAt, Found}
+use Rattle.image.specs.Cuts.{before, onward, beyond, hits, Skips, place_if, seek_of, Seeks, PartsAt, CellAt, Found}
 use Rattle.image.proofs.Standing.{headed, stands_left, stands_right, stands_at, stands_as}
 
 module _ {A : Type 0} where
@@ -127,9 +126,18 @@ entries_append w (e ∷ m) n =
     ap (λ l. e.0 ∷ l)
     (ap (λ l. w e.1 ++ l) (entries_append w m n) ∙ sym (append_assoc (w e.1) (entries w m) (entries w n)))
 
+-- what a place says
+pub placed_hit : (b : Bool) (x a : ℕ) → Ok a ≡ place_if b x → (b ≡ true) × (a ≡ x)
+placed_hit true x a e = (refl, cc)
+placed_hit false x a e = absurd cc
+
+pub placed_miss : (b : Bool) (x a : ℕ) → Err a ≡ place_if b x → (b ≡ false) × (a ≡ x)
+placed_miss true x a e = absurd cc
+placed_miss false x a e = (refl, cc)
+
 -- the loop of a search: what is left of the map stands at p
 module _ {A : Type 0} (w : A → List ℕ) (ok : A → Type 0) (top : ℕ) where
-  pub record Left (s : List ℕ) (k n p i : ℕ) (r : Seek) : Type 0 where
+  pub record Left (s : List ℕ) (k n p i : ℕ) (r : Result ℕ ℕ) : Type 0 where
     pub map : Map A
     pub low : ℕ
     pub listed : Listed ok top low map
@@ -151,51 +159,66 @@ module _ {A : Type 0} (w : A → List ℕ) (ok : A → Type 0) (top : ℕ) where
 
   module _ (s : List ℕ) (at n k p i : ℕ) (g : Seeking s at n k p i) where
     -- at the end of the map
-    pub seek_none : n ≤ i → Seeks w ok top s at n k (record { at = p; hit = false })
+    pub seek_none : n ≤ i → Seeks w ok top s at n k (Err p)
     unfolding before hits
     seek_none l = record { high = g.high; answer = λ m low u h c. go (g.sees m low u h c) }
       where
-        go : {r : Seek} → Left s k n p i r → record { at = p; hit = false } ≡ r
+        go : {r : Result ℕ ℕ} → Left s k n p i r → Err p ≡ r
         go {r} f = empty f.map f.count f.same
           where
-            empty : (m : Map A) → i + length m ≡ n → r ≡ seek_of w p k m → record { at = p; hit = false } ≡ r
-            empty [] c e = let q : p + 0 ≡ p = omega arith in sym (e ∙ λ j. record { at = q j; hit = false })
+            empty : (m : Map A) → i + length m ≡ n → r ≡ seek_of w p k m → Err p ≡ r
+            empty [] c e = let q : p + 0 ≡ p = omega arith in sym (e ∙ ap Err q)
             empty (x ∷ m) c e = absurd (omega arith)
 
     -- past the end of s
-    pub seek_out : i < n → length s ≤ p → Seeks w ok top s at n k (record { at = p; hit = false })
+    pub seek_out : i < n → length s ≤ p → Seeks w ok top s at n k (Err p)
     seek_out l o = record { high = g.high; answer = λ m low u h c. go (g.sees m low u h c) }
       where
-        go : {r : Seek} → Left s k n p i r → record { at = p; hit = false } ≡ r
+        go : {r : Result ℕ ℕ} → Left s k n p i r → Err p ≡ r
         go {r} f = never f.map f.count f.stand
           where
-            never : (m : Map A) → i + length m ≡ n → Stands s p (entries w m) → record { at = p; hit = false } ≡ r
+            never : (m : Map A) → i + length m ≡ n → Stands s p (entries w m) → Err p ≡ r
             never [] c e = absurd (omega arith)
             never (x ∷ m) c e = let q = (headed e).inside in absurd (omega arith)
 
     module _ (l : i < n) (x : ℕ) (is : x ≡ get_or s p 0) where
-      pub seek_here : k ≤ x → Seeks w ok top s at n k (record { at = p; hit = eqb x k })
+      -- at the key or a higher one
+      here : k ≤ x → {r : Result ℕ ℕ} → Left s k n p i r → place_if (eqb x k) p ≡ r
       unfolding before hits
-      seek_here o = record { high = g.high; answer = λ m low u h c. go (g.sees m low u h c) }
+      here o {r} f = go f.map f.count f.stand f.same
         where
-          go : {r : Seek} → Left s k n p i r → record { at = p; hit = eqb x k } ≡ r
-          go {r} f = here f.map f.count f.stand f.same
-            where
-              here : (m : Map A) → i + length m ≡ n → Stands s p (entries w m) → r ≡ seek_of w p k m
-                  → record { at = p; hit = eqb x k } ≡ r
-              here [] c d e = absurd (omega arith)
-              here (y ∷ m) c d e =
-                  let v : x ≡ y.0 = is ∙ (headed d).is in
-                  let b : ltb y.0 k ≡ false = le-ltb y.0 k (omega arith) in
-                  let q : p + 0 ≡ p = omega arith in
-                  sym (e ∙ rw b (λ j. record { at = q j; hit = eqb (sym v j) k }))
+          go : (m : Map A) → i + length m ≡ n → Stands s p (entries w m) → r ≡ seek_of w p k m
+              → place_if (eqb x k) p ≡ r
+          go [] c d e = absurd (omega arith)
+          go (y ∷ m) c d e =
+              let v : x ≡ y.0 = is ∙ (headed d).is in
+              let b : ltb y.0 k ≡ false = le-ltb y.0 k (omega arith) in
+              let q : p + 0 ≡ p = omega arith in
+              sym (e ∙ rw b (λ j. place_if (eqb (sym v j) k) (q j)))
 
-      pub seek_next : x < k → (q : ℕ) → ((a : A) → ok a → Stands s (p + 1) (w a) → q ≡ p + 1 + length (w a))
+      pub seek_hit : k ≡ x → Seeks w ok top s at n k (Ok p)
+      seek_hit o =
+          record {
+            high = g.high;
+            answer = λ m low u h c.
+                ap (λ b. place_if b p) (sym (eq-eqb x k (sym o))) ∙ here (omega arith) (g.sees m low u h c);
+          }
+
+      pub seek_over : k < x → Seeks w ok top s at n k (Err p)
+      seek_over o =
+          record {
+            high = g.high;
+            answer = λ m low u h c.
+                ap (λ b. place_if b p) (sym (ne_eqb x k (λ z. omega arith)))
+                ∙ here (omega arith) (g.sees m low u h c);
+          }
+
+      pub seek_next : x ≤ k → (k ≡ x → ⊥) → (q : ℕ) → ((a : A) → ok a → Stands s (p + 1) (w a) → q ≡ p + 1 + length (w a))
           → q ≤ length s → Seeking s at n k q (i + 1)
       unfolding before hits Listed
-      seek_next o q ends hi = record { high = λ h. hi; sees = λ m low u h c. go (g.sees m low u h c) }
+      seek_next o d₀ q ends hi = record { high = λ h. hi; sees = λ m low u h c. go (g.sees m low u h c) }
         where
-          go : {r : Seek} → Left s k n p i r → Left s k n q (i + 1) r
+          go : {r : Result ℕ ℕ} → Left s k n p i r → Left s k n q (i + 1) r
           go {r} f = next f.map f.listed f.count f.stand f.same
             where
               next : (m : Map A) → Listed ok top f.low m → i + length m ≡ n → Stands s p (entries w m)
@@ -216,7 +239,7 @@ module _ {A : Type 0} (w : A → List ℕ) (ok : A → Type 0) (top : ℕ) where
                     listed = u.3;
                     stand = stands_at q (sym z) (stands_right (w y.1) (entries w m) hd.more);
                     count = omega arith;
-                    same = e ∙ rw b (λ j. record { at = t j; hit = hits k m });
+                    same = e ∙ rw b (ap (place_if (hits k m)) t);
                   }
 
 -- a cell ends where its value does
@@ -295,14 +318,14 @@ module _ (s : List ℕ) (at n p i : ℕ) (g : Skipping s at n p i) where
 
 -- the search in a store, and among sections
 pub entry_next : (s : List ℕ) (at n k p i x q : ℕ) → Seeking cell_words ValidCell 255 s at n k p i → i < n
-    → x ≡ get_or s p 0 → x < k → EndsAt s (p + 1) q → Seeking cell_words ValidCell 255 s at n k q (i + 1)
-entry_next s at n k p i x q g l is o ends =
-    seek_next cell_words ValidCell 255 s at n k p i g l x is o q (cell_ends s (p + 1) q ends) ends.high
+    → x ≡ get_or s p 0 → x ≤ k → (k ≡ x → ⊥) → EndsAt s (p + 1) q → Seeking cell_words ValidCell 255 s at n k q (i + 1)
+entry_next s at n k p i x q g l is o d ends =
+    seek_next cell_words ValidCell 255 s at n k p i g l x is o d q (cell_ends s (p + 1) q ends) ends.high
 
 pub section_next : (s : List ℕ) (at n k p i x : ℕ) (c : Parts) → Seeking task_words ValidTask 63 s at n k p i → i < n
-    → x ≡ get_or s p 0 → x < k → PartsAt s (p + 1) c → Seeking task_words ValidTask 63 s at n k c.end (i + 1)
-section_next s at n k p i x c g l is o h =
-    seek_next task_words ValidTask 63 s at n k p i g l x is o c.end (λ a u st. (h.cut a u st).end) h.end
+    → x ≡ get_or s p 0 → x ≤ k → (k ≡ x → ⊥) → PartsAt s (p + 1) c → Seeking task_words ValidTask 63 s at n k c.end (i + 1)
+section_next s at n k p i x c g l is o d h =
+    seek_next task_words ValidTask 63 s at n k p i g l x is o d c.end (λ a u st. (h.cut a u st).end) h.end
 
 -- the parts of a section
 pub cut : (s : List ℕ) (at n local m expression end : ℕ) → at ≤ length s → n ≡ get_or s at 0
@@ -335,64 +358,66 @@ cut s at n local m expression end b ni a mi c e =
     }
 
 -- a cell that is hit stands after its location
-pub hit_cell : (s : List ℕ) (at n l : ℕ) (q : Seek) (m : Store) (low : ℕ) → Seeks cell_words ValidCell 255 s at n l q
-    → Listed ValidCell 255 low m → Stands s at (entries cell_words m) → length m ≡ n → q.hit ≡ true
-    → (c : Cell) × (get l m ≡ some c) × Stands s (q.at + 1) (cell_words c)
-hit_cell s at n l q m low k u h c t =
-    let e = k.answer m low u h c in
-    let H = hit l m (ap (λ (x : Seek). x.hit) (sym e) ∙ t) in
-    let ea : q.at ≡ at + length (entries cell_words (before l m)) = ap (λ (x : Seek). x.at) e in
+pub hit_cell : (s : List ℕ) (at n l : ℕ) (q : Result ℕ ℕ) (p : ℕ) (m : Store) (low : ℕ)
+    → Seeks cell_words ValidCell 255 s at n l q → Listed ValidCell 255 low m → Stands s at (entries cell_words m)
+    → length m ≡ n → q ≡ Ok p → (c : Cell) × (get l m ≡ some c) × Stands s (p + 1) (cell_words c)
+hit_cell s at n l q p m low k u h c t =
     let first = entries cell_words (before l m) in
     let more = entries cell_words (onward l m) in
+    let e = placed_hit (hits l m) (at + length first) p (sym t ∙ k.answer m low u h c) in
+    let H = hit l m e.0 in
     let split : entries cell_words m ≡ first ++ more
     = ap (entries cell_words) (before_onward l m) ∙ entries_append cell_words (before l m) (onward l m) in
-    let st : Stands s q.at more = stands_at q.at (sym ea) (stands_right first more (stands_as split h)) in
+    let st : Stands s p more = stands_at p (sym e.1) (stands_right first more (stands_as split h)) in
     let after = (headed (stands_as (ap (entries cell_words) H.onward) st)).more in
     (H.here, H.get, stands_left (cell_words H.here) (entries cell_words (beyond l m)) after)
 
-pub miss_cell : (s : List ℕ) (at n l : ℕ) (q : Seek) (m : Store) (low : ℕ) → Seeks cell_words ValidCell 255 s at n l q
-    → Listed ValidCell 255 low m → Stands s at (entries cell_words m) → length m ≡ n → q.hit ≡ false → get l m ≡ none
-miss_cell s at n l q m low k u h c t =
-    miss_get l m (listed_rising ValidCell 255 m low u) (ap (λ (x : Seek). x.hit) (sym (k.answer m low u h c)) ∙ t)
+pub miss_cell : (s : List ℕ) (at n l : ℕ) (q : Result ℕ ℕ) (p : ℕ) (m : Store) (low : ℕ)
+    → Seeks cell_words ValidCell 255 s at n l q → Listed ValidCell 255 low m → Stands s at (entries cell_words m)
+    → length m ≡ n → q ≡ Err p → get l m ≡ none
+miss_cell s at n l q p m low k u h c t =
+    let e = placed_miss (hits l m) (at + length (entries cell_words (before l m))) p
+    (sym t ∙ k.answer m low u h c) in
+    miss_get l m (listed_rising ValidCell 255 m low u) e.0
 
-module _ (s : List ℕ) (snapshot local l n : ℕ) (ni : n ≡ get_or s local 0) (a : Seek)
-    (ka : Seeks cell_words ValidCell 255 s (local + 1) n l a) where
-  pub in_local_lem : a.hit ≡ true → Found s snapshot local l (From (a.at + 1))
+module _ (s : List ℕ) (snapshot local l n : ℕ) (ni : n ≡ get_or s local 0) (a : Result ℕ ℕ)
+    (ka : Seeks cell_words ValidCell 255 s (local + 1) n l a) (p : ℕ) where
+  pub in_local_lem : a ≡ Ok p → Found s snapshot local l (Some (p + 1))
   in_local_lem t =
       record {
         answer = λ me v hs ho.
             let h = headed ho in
-            let (x, g, st) = hit_cell s (local + 1) n l a me.local 0 ka v.local h.more (sym (ni ∙ h.is)) t in
-            subst (λ (o : Option Cell). CellAt s o (From (a.at + 1)))
+            let (x, g, st) = hit_cell s (local + 1) n l a p me.local 0 ka v.local h.more (sym (ni ∙ h.is)) t in
+            subst (λ (o : Maybe Cell). CellAt s o (Some (p + 1)))
             (sym (get_overlaid l me.snapshot me.local ∙ ap (λ o. or_else o (get l me.snapshot)) g)) st;
       }
 
-  module _ (t : a.hit ≡ false) (m : ℕ) (mi : m ≡ get_or s snapshot 0) (b : Seek)
-      (kb : Seeks cell_words ValidCell 255 s (snapshot + 1) m l b) where
+  module _ (t : a ≡ Err p) (m : ℕ) (mi : m ≡ get_or s snapshot 0) (b : Result ℕ ℕ)
+      (kb : Seeks cell_words ValidCell 255 s (snapshot + 1) m l b) (q : ℕ) where
     not_local : (me : Task) → ValidTask me → Stands s local (counted cell_words me.local)
         → get l (view me) ≡ get l me.snapshot
     not_local me v ho =
         let h = headed ho in
         get_overlaid l me.snapshot me.local
         ∙ ap (λ o. or_else o (get l me.snapshot))
-        (miss_cell s (local + 1) n l a me.local 0 ka v.local h.more (sym (ni ∙ h.is)) t)
+        (miss_cell s (local + 1) n l a p me.local 0 ka v.local h.more (sym (ni ∙ h.is)) t)
 
-    pub in_snapshot : b.hit ≡ true → Found s snapshot local l (From (b.at + 1))
+    pub in_snapshot : b ≡ Ok q → Found s snapshot local l (Some (q + 1))
     in_snapshot y =
         record {
           answer = λ me v hs ho.
               let h = headed hs in
               let (x, g, st)
-              = hit_cell s (snapshot + 1) m l b me.snapshot 0 kb v.snapshot h.more (sym (mi ∙ h.is)) y in
-              subst (λ (o : Option Cell). CellAt s o (From (b.at + 1))) (sym (not_local me v ho ∙ g)) st;
+              = hit_cell s (snapshot + 1) m l b q me.snapshot 0 kb v.snapshot h.more (sym (mi ∙ h.is)) y in
+              subst (λ (o : Maybe Cell). CellAt s o (Some (q + 1))) (sym (not_local me v ho ∙ g)) st;
         }
 
-    pub nowhere : b.hit ≡ false → Found s snapshot local l No
+    pub nowhere : b ≡ Err q → Found s snapshot local l None
     nowhere y =
         record {
           answer = λ me v hs ho.
               let h = headed hs in
-              let g = miss_cell s (snapshot + 1) m l b me.snapshot 0 kb v.snapshot h.more (sym (mi ∙ h.is)) y
+              let g = miss_cell s (snapshot + 1) m l b q me.snapshot 0 kb v.snapshot h.more (sym (mi ∙ h.is)) y
               in
-              subst (λ (o : Option Cell). CellAt s o No) (sym (not_local me v ho ∙ g)) tt;
+              subst (λ (o : Maybe Cell). CellAt s o None) (sym (not_local me v ho ∙ g)) tt;
         }

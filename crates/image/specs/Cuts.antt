@@ -1,15 +1,13 @@
 -- Maps cut at a key; what the functions on the words of stores and sections promise of every valid one that stands
 -- there.
-use Rattle.std.specs.Prelude.{ℕ, ◌+◌, ◌≤◌, ◌≡◌, Bool, false, cond, List, [], ◌∷◌, length, eqb, ltb}
-use Rattle.std.proofs.Math.Option.{Option, none, some}
+use Rattle.std.specs.Prelude.{ℕ, ◌+◌, ◌≤◌, ◌≡◌, Bool, true, false, cond, List, [], ◌∷◌, length, eqb, ltb}
+use Rattle.std.specs.Prelude.{Option, Some, None, Result, Ok, Err}
+use Rattle.std.proofs.Math.Option.{Option as Maybe, none, some}
 use Rattle.calculus.specs.Maps.{Map, get}
 use Rattle.calculus.specs.Stores.{Cell, Store}
 use Rattle.calculus.specs.States.{Task, view}
 use Rattle.calculus.specs.Images.{entries, counted, cell_words, task_words, Listed, ValidCell, ValidTask}
-use Rattle.image.specs.declared.parts.Seek.{Seek}
 use Rattle.image.specs.declared.parts.Parts.{Parts}
-use Rattle.image.specs.declared.parts.Value.{Value}
-use Rattle.image.specs.declared.parts.Value.TheVariants.{From, No}
 use Rattle.image.specs.Standing.{Stands}
 
 module _ {A : Type 0} where
@@ -36,13 +34,22 @@ pub record Skips (s : List ℕ) (at n r : ℕ) : Type 0 where
   pub ends : (m : Store) (low : ℕ) → Listed ValidCell 255 low m → Stands s at (entries cell_words m) → length m ≡ n
       → at ≤ length s → r ≡ at + length (entries cell_words m)
 
-abbrev pub seek_of : {A : Type 0} → (A → List ℕ) → ℕ → ℕ → Map A → Seek
-seek_of w at k m = record { at = at + length (entries w (before k m)); hit = hits k m }
+-- the place, as that of an entry that is there or of one that would go there
+abbrev pub place_if : Bool → ℕ → Result ℕ ℕ
+place_if true at = Ok at
+place_if false at = Err at
+
+abbrev pub place_in : Result ℕ ℕ → ℕ
+place_in (Ok at) = at
+place_in (Err at) = at
+
+abbrev pub seek_of : {A : Type 0} → (A → List ℕ) → ℕ → ℕ → Map A → Result ℕ ℕ
+seek_of w at k m = place_if (hits k m) (at + length (entries w (before k m)))
 
 -- the place of k among n entries, each written by w, that stand at `at`
 pub record Seeks {A : Type 0} (w : A → List ℕ) (ok : A → Type 0) (top : ℕ)
-    (s : List ℕ) (at n k : ℕ) (r : Seek) : Type 0 where
-  pub high : at ≤ length s → r.at ≤ length s
+    (s : List ℕ) (at n k : ℕ) (r : Result ℕ ℕ) : Type 0 where
+  pub high : at ≤ length s → place_in r ≤ length s
   pub answer : (m : Map A) (low : ℕ) → Listed ok top low m → Stands s at (entries w m) → length m ≡ n
       → r ≡ seek_of w at k m
 
@@ -59,13 +66,13 @@ pub record PartsAt (s : List ℕ) (at : ℕ) (r : Parts) : Type 0 where
   pub cut : (me : Task) → ValidTask me → Stands s at (task_words me) → Cut at me r
 
 -- the cell, if any, stands where it is said to
-abbrev pub CellAt : List ℕ → Option Cell → Value → Type 0
-CellAt s none No = Unit {0}
-CellAt s none (From p) = ⊥
-CellAt s (some c) No = ⊥
-CellAt s (some c) (From p) = Stands s p (cell_words c)
+abbrev pub CellAt : List ℕ → Maybe Cell → Option ℕ → Type 0
+CellAt s none None = Unit {0}
+CellAt s none (Some p) = ⊥
+CellAt s (some c) None = ⊥
+CellAt s (some c) (Some p) = Stands s p (cell_words c)
 
 -- l in the view of the task whose stores stand there
-pub record Found (s : List ℕ) (snapshot local l : ℕ) (r : Value) : Type 0 where
+pub record Found (s : List ℕ) (snapshot local l : ℕ) (r : Option ℕ) : Type 0 where
   pub answer : (me : Task) → ValidTask me → Stands s snapshot (counted cell_words me.snapshot)
       → Stands s local (counted cell_words me.local) → CellAt s (get l (view me)) r

@@ -10,46 +10,34 @@ pub fn skip(s: &[u16], at: usize, n: usize) -> usize
     ensures { Skips s.now at n result }
 {
     let mut p = at;
-    let mut i: usize = 0;
-    while i < n {
+    for _ in 0..n {
         if s.len() <= p {
             return s.len();
         }
         p = past(s, p + 1);
-        i += 1;
     }
-    if s.len() < p {
-        return s.len();
-    }
-    p
+    p.min(s.len())
 }
 
-// The place of a key: where the first entry with this key or a higher one stands, and whether it has this key.
-#[derive(Drop)]
-pub struct Seek {
-    pub at: usize,
-    pub hit: bool,
-}
-
-// The place of location l among n entries of a store that start at `at`.
-pub fn seek_entry(s: &[u16], at: usize, n: usize, l: u16) -> Seek
+// Where the entry of location l stands among n entries of a store that start at `at`, or else where it would go.
+pub fn seek_entry(s: &[u16], at: usize, n: usize, l: u16) -> Result<usize, usize>
     ensures { Seeks cell_words ValidCell 255 s.now at n l result }
 {
     let mut p = at;
-    let mut i: usize = 0;
-    while i < n {
+    for _ in 0..n {
         if s.len() <= p {
-            return Seek { at: p, hit: false };
+            return Err(p);
         }
         let key = s[p];
-        if l <= key {
-            let hit = key == l;
-            return Seek { at: p, hit };
+        if l < key {
+            return Err(p);
+        }
+        if l == key {
+            return Ok(p);
         }
         p = past(s, p + 1);
-        i += 1;
     }
-    Seek { at: p, hit: false }
+    Err(p)
 }
 
 // Of a section whose snapshot's count stands at `at`: where its local store's count, its expression and its end stand.
@@ -76,46 +64,38 @@ pub fn parts_of(s: &[u16], at: usize) -> Parts
     }
 }
 
-// The place of revision r among n sections that start at `at`.
-pub fn seek_section(s: &[u16], at: usize, n: usize, r: u16) -> Seek
+// Where the section of revision r stands among n sections that start at `at`, or else where it would go.
+pub fn seek_section(s: &[u16], at: usize, n: usize, r: u16) -> Result<usize, usize>
     ensures { Seeks task_words ValidTask 63 s.now at n r result }
 {
     let mut p = at;
-    let mut i: usize = 0;
-    while i < n {
+    for _ in 0..n {
         if s.len() <= p {
-            return Seek { at: p, hit: false };
+            return Err(p);
         }
         let key = s[p];
-        if r <= key {
-            let hit = key == r;
-            return Seek { at: p, hit };
+        if r < key {
+            return Err(p);
+        }
+        if r == key {
+            return Ok(p);
         }
         let c = parts_of(s, p + 1);
         p = c.end;
-        i += 1;
     }
-    Seek { at: p, hit: false }
+    Err(p)
 }
 
-#[derive(Drop)]
-pub enum Value {
-    From(usize),
-    No,
-}
-
-// Where the value of location l in a view starts: in the local store at `local`, or else in the snapshot at `snapshot`.
-pub fn look_up(s: &[u16], snapshot: usize, local: usize, l: u16) -> Value
+// Where the value of location l in a view starts, if it is in the view: in the local store at `local`, or else in the snapshot at `snapshot`.
+pub fn look_up(s: &[u16], snapshot: usize, local: usize, l: u16) -> Option<usize>
     requires { (snapshot < length s.now) × (local < length s.now) }
     ensures { Found s.now snapshot local l result }
 {
-    let own = seek_entry(s, local + 1, word_at(s, local) as usize, l);
-    if own.hit {
-        return Value::From(own.at + 1);
+    if let Ok(own) = seek_entry(s, local + 1, word_at(s, local) as usize, l) {
+        return Some(own + 1);
     }
-    let old = seek_entry(s, snapshot + 1, word_at(s, snapshot) as usize, l);
-    if old.hit {
-        return Value::From(old.at + 1);
+    if let Ok(old) = seek_entry(s, snapshot + 1, word_at(s, snapshot) as usize, l) {
+        return Some(old + 1);
     }
-    Value::No
+    None
 }

@@ -5,22 +5,18 @@ ghost use Rattle.image.specs.Reports.{report_of};
 
 use crate::used::in_use;
 use crate::valid::is_valid;
-use words::names::{InUse, no_marks};
+use words::names::InUse;
 
-// The answer's number, 0 or 8, and the numbers in use: none on a refusal.
-#[derive(Drop)]
-pub struct Reported {
-    pub number: u16,
-    pub used: InUse,
-}
+// The words are not a valid image.
+#[derive(Clone, Copy, PartialEq, Eq, Debug)]
+pub struct NotValid;
 
-pub fn report(s: &[u16]) -> Reported
+// The revision numbers in use.
+pub fn report(s: &[u16]) -> Result<InUse, NotValid>
     ensures { report_of result ≡ report_answer s.now }
 {
-    if is_valid(s) {
-        let used = in_use(s);
-        return Reported { number: 0, used };
+    if !is_valid(s) {
+        return Err(NotValid);
     }
-    let used = no_marks();
-    Reported { number: 8, used }
+    Ok(in_use(s))
 }

@@ -16,8 +16,7 @@ pub fn keys_of_store(s: &[u16], at: usize, marks: [bool; 256]) -> [bool; 256]
     }
     let n = word_at(s, at) as usize;
     let mut p = at + 1;
-    let mut i: usize = 0;
-    while i < n {
+    for _ in 0..n {
         if s.len() <= p {
             return all;
         }
@@ -26,7 +25,6 @@ pub fn keys_of_store(s: &[u16], at: usize, marks: [bool; 256]) -> [bool; 256]
             all[key] = true;
         }
         p = past(s, p + 1);
-        i += 1;
     }
     all
 }
@@ -46,8 +44,7 @@ pub fn taken_locations(s: &[u16]) -> [bool; 256]
     let n = word_at(s, 0) as usize;
     let mut all = [false; 256];
     let mut p: usize = 1;
-    let mut i: usize = 0;
-    while i < n {
+    for _ in 0..n {
         if s.len() <= p {
             return all;
         }
@@ -55,7 +52,6 @@ pub fn taken_locations(s: &[u16]) -> [bool; 256]
         let more = keys_of_section(s, p + 1, parts, all);
         all = more;
         p = parts.end;
-        i += 1;
     }
     all
 }

@@ -31,15 +31,13 @@ pub fn uses_of_store(s: &[u16], at: usize, used: InUse) -> InUse
     let n = word_at(s, at) as usize;
     let mut all = used;
     let mut p = at + 1;
-    let mut i: usize = 0;
-    while i < n {
+    for _ in 0..n {
         if s.len() <= p {
             return all;
         }
         let end = past(s, p + 1);
         all = uses_between(s, p + 1, end, all);
         p = end;
-        i += 1;
     }
     all
 }
@@ -62,8 +60,7 @@ pub fn in_use(s: &[u16]) -> InUse
     let n = word_at(s, 0) as usize;
     let mut all = no_marks();
     let mut p: usize = 1;
-    let mut i: usize = 0;
-    while i < n {
+    for _ in 0..n {
         if s.len() <= p {
             return all;
         }
@@ -71,7 +68,6 @@ pub fn in_use(s: &[u16]) -> InUse
         let parts = parts_of(s, p + 1);
         all = uses_of_section(s, number, p + 1, parts, all);
         p = parts.end;
-        i += 1;
     }
     all
 }

@@ -24,9 +24,8 @@ fn entries_end(s: &[u16], at: usize, n: usize) -> Walk
     ensures { Matched (list_of read_cell 255 n) s.now at result }
 {
     let mut p = at;
-    let mut i: usize = 0;
     let mut low: u16 = 0;
-    while i < n {
+    for _ in 0..n {
         if s.len() <= p {
             return Walk::Broken;
         }
@@ -42,7 +41,6 @@ fn entries_end(s: &[u16], at: usize, n: usize) -> Walk
         };
         p = end;
         low = key + 1;
-        i += 1;
     }
     Walk::Ends(p)
 }
@@ -80,9 +78,8 @@ fn sections_end(s: &[u16], at: usize, n: usize) -> Walk
     ensures { Matched (list_of read_task 63 n) s.now at result }
 {
     let mut p = at;
-    let mut i: usize = 0;
     let mut low: u16 = 0;
-    while i < n {
+    for _ in 0..n {
         if s.len() <= p {
             return Walk::Broken;
         }
@@ -98,7 +95,6 @@ fn sections_end(s: &[u16], at: usize, n: usize) -> Walk
         };
         p = end;
         low = key + 1;
-        i += 1;
     }
     Walk::Ends(p)
 }

@@ -2,11 +2,11 @@
 use Rattle.image.proofs.Seeking.{in_local_lem, in_snapshot, nowhere}
 use Rattle.image.proofs.parts.look_up.Goals as goal
 
-pub returns-then-own : goal.returns-then-own
-returns-then-own c = search in_local_lem
+pub returns-in-Ok : goal.returns-in-Ok
+returns-in-Ok c = search in_local_lem
 
-pub returns-then-old : goal.returns-then-old
-returns-then-old c = search in_snapshot
+pub returns-in-Ok-seek_entry : goal.returns-in-Ok-seek_entry
+returns-in-Ok-seek_entry c = search in_snapshot
 
 pub returns : goal.returns
 returns c = search nowhere

@@ -5,5 +5,5 @@ use Rattle.image.proofs.parts.skip.Goals as goal
 pub returns-then-s-p : goal.returns-then-s-p
 returns-then-s-p c = search skip_out
 
-pub loop-i-preserved : goal.loop-i-preserved
-loop-i-preserved c = search skip_next
+pub loop-preserved : goal.loop-preserved
+loop-preserved c = search skip_next

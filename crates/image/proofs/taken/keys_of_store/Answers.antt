@@ -7,10 +7,10 @@ use Rattle.image.proofs.taken.keys_of_store.Goals.{then-key-lt256, else-key-lt25
 pub returns-then-s-p : goal.returns-then-s-p
 returns-then-s-p c = search keys_broken
 
-pub loop-i-preserved : goal.loop-i-preserved
-loop-i-preserved c =
-    let l = c.loop-i in
-    let t = c.loop-i-test in
+pub loop-preserved : goal.loop-preserved
+loop-preserved c =
+    let l = c.loop in
+    let t = c.loop-test in
     let k = c.word_at-key in
     let e = c.past-p in
     elim c.if-key-lt256.branch [

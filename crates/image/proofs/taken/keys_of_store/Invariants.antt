@@ -1,10 +1,6 @@
--- The entries still to be marked stand at `p`; the measure is how many are left.
-use Rattle.std.proofs.Common.{◌-◌}
+-- The entries still to be marked stand at `p`.
 use Rattle.image.proofs.Locations.{KeyWalk}
 use Rattle.image.proofs.taken.keys_of_store.Given as goal
 
-abbrev pub invariant-loop-i : goal.invariant-loop-i
-invariant-loop-i l = KeyWalk l.s l.at l.n l.initial.all l.all l.p l.i
-
-abbrev pub decreases-loop-i : goal.decreases-loop-i
-decreases-loop-i l = l.n - l.i
+abbrev pub invariant-loop : goal.invariant-loop
+invariant-loop l = KeyWalk l.s l.at l.n l.initial.all l.all l.p l.counter

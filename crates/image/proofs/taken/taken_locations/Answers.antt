@@ -5,8 +5,8 @@ use Rattle.image.proofs.taken.taken_locations.Goals as goal
 pub returns-then-s-p : goal.returns-then-s-p
 returns-then-s-p c = search locations_out
 
-pub loop-i-preserved : goal.loop-i-preserved
-loop-i-preserved c = search locations_next
+pub loop-preserved : goal.loop-preserved
+loop-preserved c = search locations_next
 
 pub returns : goal.returns
 returns c = search locations_done

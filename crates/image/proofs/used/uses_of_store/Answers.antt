@@ -5,8 +5,8 @@ use Rattle.image.proofs.used.uses_of_store.Goals as goal
 pub returns-then-s-p : goal.returns-then-s-p
 returns-then-s-p c = search uses_broken
 
-pub loop-i-preserved : goal.loop-i-preserved
-loop-i-preserved c = search uses_next
+pub loop-preserved : goal.loop-preserved
+loop-preserved c = search uses_next
 
 pub returns : goal.returns
 returns c = search uses_done

@@ -3,8 +3,8 @@ use Rattle.image.proofs.Walking.{walk_start, walk_end, walk_out}
 use Rattle.image.proofs.Walking.{walk_low, walk_high, walk_broken, walk_turn}
 use Rattle.image.proofs.valid.sections_end.Goals as goal
 
-pub loop-i-init : goal.loop-i-init
-loop-i-init c = search walk_start
+pub loop-init : goal.loop-init
+loop-init c = search walk_start
 
 pub returns-then-s-p : goal.returns-then-s-p
 returns-then-s-p c = search walk_out
@@ -18,8 +18,8 @@ returns-then-key-gt63 c = search walk_high
 pub returns-in_default : goal.returns-in_default
 returns-in_default c = search walk_broken
 
-pub loop-i-preserved : goal.loop-i-preserved
-loop-i-preserved c = search walk_turn
+pub loop-preserved : goal.loop-preserved
+loop-preserved c = search walk_turn
 
 pub returns : goal.returns
 returns c = search walk_end
