@@ -1,12 +1,18 @@
 -- Writes through a cursor: one after the other, a word, and a part of other words.
 use Prim.Native.Nat.{ℕ, suc, ◌+◌, ◌-◌, ◌<◌, ◌≤◌}
 use mathlib.Core.Path.{subst as along, ◌≡◌, refl, sym, ap, ◌∙◌}
-use mathlib.Core.List.{List, [], ◌∷◌, ◌++◌}
+use mathlib.Core.Logic.{◌⊎◌, inl, inr}
+use mathlib.Core.List.{List, [], ◌∷◌, ◌++◌, append_assoc}
 use native.Mathlib.Nat.{add-zero, add-suc, suc-add}
 use native.Mathlib.Decide.{dec_lt}
 use native.Mathlib.Omega.{arith}
-use lib.ListN.{length, get_or, set, take, drop, length-set, length-take, length-drop, length-append}
-use lib.Seq.{sets, length-sets, set_out, set_comm, set-set, take-add, take-suc, drop-drop, get_or-drop}
+use lib.ListN.{length, set, take, drop, length-take, length-drop, length-append, take-append-drop}
+use lib.Seq.{sets, length-sets, set_out, set_comm, set-set, drop-drop}
+use borrow.Rule.Slice.PartMut.{put_mid}
+use Rattle.std.proofs.lemmas.List.Edits.{sets-eq}
+use Rattle.std.proofs.Common.{Bor, Option, Some, None}
+use Rattle.std.specs.Option.{unwrap_or}
+use Rattle.std.specs.Slice.{IsGetRangeResult}
 use Rattle.image.specs.Standing.{Stands}
 use Rattle.image.proofs.Standing.{stands_take}
 use Rattle.write.specs.Cursor.{part, Wrote}
@@ -62,17 +68,45 @@ then {a} {b} {o} {to} {j} {r} {o₁} {o₂} w v =
         sets_out (sets o to a) j b (omega arith) ∙ sym (sets_out (sets o to a) (to + length a) b (omega arith))
     go (no p) = let e = w.at in ap (λ (i : ℕ). sets (sets o to a) i b) (omega arith)
 
--- a word
-pub word_out : (o : List ℕ) (to w : ℕ) → length o ≤ to → Wrote (w ∷ []) o to (length o + 1) o
-word_out o to w h = record { at = omega arith; out = sym (sets_out o to (w ∷ []) h) }
+-- what a part holds that was written whole
+put_mid_sets : (o : List ℕ) (to n : ℕ) (ys : List ℕ) → n ≡ length ys → to + n ≤ length o
+    → put_mid to n o ys ≡ sets o to ys
+put_mid_sets o to n ys e h =
+    ap (λ l. take to o ++ (ys ++ l)) (drop-drop n to o ∙ ap (λ k. drop (to + k) o) e)
+    ∙ sym (append_assoc (take to o) ys (drop (to + length ys) o))
+    ∙ sym (sets-eq ys o to (omega arith))
 
-pub word_in : (o : List ℕ) (to w : ℕ) → to < length o → Wrote (w ∷ []) o to (to + 1) (set o to w)
-word_in o to w h = record { at = omega arith; out = refl }
+-- words written at the cursor: where it is past the end, where there is room for n of them, and where for all
+module _ (o : List ℕ) (to : ℕ) (ws : List ℕ) where
+  pub words_out : length o < to → Wrote ws o to (length o + 1) o
+  words_out h = record { at = omega arith; out = sym (sets_out o to ws (omega arith)) }
+
+  module _ (ys : List ℕ) where
+    pub words_cut : (n : ℕ) → n ≡ length o - to → ys ≡ take n ws → to ≤ length o → n < length ws
+        → Wrote ws o to (length (put_mid to n o ys) + 1) (put_mid to n o ys)
+    words_cut n d e h k =
+        let l : length ys ≡ n = ap length e ∙ simp length-take (omega arith) in
+        let s = length-sets o to ys in
+        let is : put_mid to n o ys ≡ sets o to ws
+        = put_mid_sets o to n ys (sym l) (omega arith)
+        ∙ sym (sets_out (sets o to ys) (to + length ys) (drop n ws) (omega arith))
+        ∙ sym (sets_append o to ys (drop n ws))
+        ∙ ap (λ l. sets o to (l ++ drop n ws)) e
+        ∙ ap (sets o to) (take-append-drop n ws) in
+        record { at = omega (arith, ap length is, length-sets o to ws); out = is }
+
+    pub words_in : ys ≡ ws → to ≤ length o → length ws ≤ length o - to
+        → Wrote ws o to (to + length ws) (put_mid to (to + length ws - to) o ys)
+    words_in e h k =
+        record {
+          at = omega arith;
+          out = put_mid_sets o to _ ys (omega (arith, ap length e)) (omega arith) ∙ ap (sets o to) e;
+        }
 
 -- a word z before the words ws that is stored again as c, when they are written: a count that is known at the end
-pub recount : (o : List ℕ) (to k z c r t : ℕ) (o₁ o₂ o₃ ws : List ℕ) → to ≤ length o + 1 → Wrote (z ∷ []) o to k o₁
+pub recount : (o : List ℕ) (to k z c r t : ℕ) (o₁ o₂ o₃ ws : List ℕ) → Wrote (z ∷ []) o to k o₁
     → Wrote ws o₁ k r o₂ → Wrote (c ∷ []) o₂ to t o₃ → Wrote (c ∷ ws) o to r o₃
-recount o to k z c r t o₁ o₂ o₃ ws h w v f =
+recount o to k z c r t o₁ o₂ o₃ ws w v f =
     let (l, b) = wrote_size w in
     let a = w.at in
     let d = v.at in
@@ -110,100 +144,13 @@ unfolding part
 part_stands {s} {at} {ws} b h e =
     let n : b - at ≡ length ws = omega arith in ap (λ (k : ℕ). take k (drop at s)) n ∙ stands_take h
 
-part_more : (s : List ℕ) (a i : ℕ) → a ≤ i → i < length s → part s a (i + 1) ≡ part s a i ++ (get_or s i 0 ∷ [])
+-- what `get` lends of a range, and else no words, is that part
+pub got_part : (s : List ℕ) (a b : ℕ) (r : Option (Bor (List ℕ))) (d x : Bor (List ℕ)) → IsGetRangeResult s a b r
+    → x ≡ unwrap_or r d → d.now ≡ [] → b ≤ length s → x.now ≡ part s a b
 unfolding part
-part_more s a i h k =
-    let n : i + 1 - a ≡ suc (i - a) = omega arith in
-    let m : a + (i - a) ≡ i = omega arith in
-    ap (λ (k : ℕ). take k (drop a s)) n
-    ∙ take-suc (drop a s) (i - a) 0 (simp length-drop (omega arith))
-    ∙ ap (λ (x : ℕ). take (i - a) (drop a s) ++ (x ∷ [])) (get_or-drop a s (i - a) 0 ∙ ap (λ (k : ℕ). get_or s k 0) m)
-
--- the copy's loop: the words from a to i are written
-pub record Copied (s : List ℕ) (a b : ℕ) (o₀ : List ℕ) (to : ℕ) (o : List ℕ) (i j : ℕ) : Type 0 where
-  pub low : a ≤ i
-  pub stop : a < i → i ≤ b
-  pub at : j ≡ to + (i - a)
-  pub room : j ≤ length o₀ + 1
-  pub same : length o ≡ length o₀
-  pub done : o ≡ sets o₀ to (part s a i)
-
-pub copy_start : (s : List ℕ) (a b : ℕ) (o : List ℕ) (to : ℕ) → to ≤ length o + 1 → Copied s a b o to o a to
-unfolding part
-copy_start s a b o to h =
-    let z : a - a ≡ 0 = omega arith in
-    record {
-      low = omega arith;
-      stop = λ l. absurd (omega arith);
-      at = omega arith;
-      room = h;
-      same = refl;
-      done = sym (ap (λ (k : ℕ). sets o to (take k (drop a s))) z);
-    }
-
-module _
-    (s : List ℕ) (a b : ℕ) (high : b ≤ length s) (o₀ : List ℕ) (to : ℕ) (o : List ℕ) (i j : ℕ)
-    (c : Copied s a b o₀ to o i j)
+got_part s a b None d x (h, k) e n l = ap (λ (x : Bor (List ℕ)). x.now) e ∙ n ∙ ap (λ n. take n (drop a s)) (sym (none h))
   where
-    pub copy_turn : i < b → j < length o → Copied s a b o₀ to (set o j (get_or s i 0)) (i + 1) (j + 1)
-    copy_turn h k =
-        let l = c.low in
-        let n : length (part s a i) ≡ i - a = part_length s a i (omega arith) in
-        record {
-          low = omega arith;
-          stop = λ z. omega arith;
-          at = omega (arith, c.at);
-          room = omega (arith, c.same);
-          same = length-set o j _ ∙ c.same;
-          done = sym (
-              ap (sets o₀ to) (part_more s a i c.low (omega arith))
-              ∙ sets_append o₀ to (part s a i) (get_or s i 0 ∷ [])
-              ∙ ap (λ (l : List ℕ). set l (to + length (part s a i)) (get_or s i 0)) (sym c.done)
-              ∙ ap (λ (m : ℕ). set o m (get_or s i 0)) (omega (arith, c.at))
-              );
-        }
-
-    -- the part up to b as the part up to i and what is after it
-    split : i ≤ b → part s a b ≡ part s a i ++ part s i b
-    unfolding part
-    split h =
-        let l = c.low in
-        let e : b - a ≡ (i - a) + (b - i) = omega arith in
-        let f : a + (i - a) ≡ i = omega arith in
-        ap (λ (k : ℕ). take k (drop a s)) e
-        ∙ take-add (i - a) (b - i) (drop a s)
-        ∙ ap (λ (l : List ℕ). take (i - a) (drop a s) ++ take (b - i) l)
-        (drop-drop (i - a) a s ∙ ap (λ (k : ℕ). drop k s) f)
-
-    pub copy_full : length o ≤ j → i < b → Wrote (part s a b) o₀ to (length o + 1) o
-    copy_full h k =
-        let l = c.low in
-        let n = part_length s a b high in
-        let m : length (part s a i) ≡ i - a = part_length s a i (omega arith) in
-        let e = c.at in
-        let g = c.same in
-        let ls = length-sets o₀ to (part s a i) in
-        record {
-          at = omega arith;
-          out = c.done
-              ∙ sym (
-              ap (sets o₀ to) (split (omega arith))
-              ∙ sets_append o₀ to (part s a i) (part s i b)
-              ∙ sets_out (sets o₀ to (part s a i)) (to + length (part s a i)) (part s i b) (omega arith)
-              );
-        }
-
-    pub copy_done : b ≤ i → Wrote (part s a b) o₀ to j o
-    unfolding part
-    copy_done h =
-        let l = c.low in
-        let n = part_length s a b high in
-        let e : i - a ≡ b - a = go (dec_lt a i) in
-        record {
-          at = omega (arith, c.at, c.room);
-          out = c.done ∙ ap (λ (k : ℕ). sets o₀ to (take k (drop a s))) e;
-        }
-      where
-        go : Dec (a < i) → i - a ≡ b - a
-        go (yes p) = let q = c.stop p in omega arith
-        go (no p) = let l = c.low in omega arith
+    none : (b < a) ⊎ (length s < b) → b - a ≡ 0
+    none (inl h) = omega arith
+    none (inr h) = absurd (omega arith)
+got_part s a b (Some y) d x ((i, j, is, m), k) e n l = ap (λ (x : Bor (List ℕ)). x.now) e ∙ is

@@ -7,35 +7,35 @@ use lib.ListN.{length}
 use Rattle.calculus.specs.Maps.{overlaid}
 use Rattle.calculus.specs.Stores.{Store}
 use Rattle.calculus.specs.Images.{entries, counted, cell_words}
+use Rattle.write.specs.declared.overlay.Rest.{Rest}
 use Rattle.write.specs.declared.overlay.Turn.{Turn}
 use Rattle.write.specs.Cursor.{part, Wrote}
 use Rattle.write.specs.Overlay.{TwoStores, Turns, WroteOverlay}
 use Rattle.write.proofs.Cursors.{wrote_size, wrote_nil, wrote_as, then, recount}
 
 -- `done` is written, and with the overlay of what is left it is all; so with the count
-pub record Rest (s o₀ : List ℕ) (to : ℕ) (o : List ℕ) (p i q j k count : ℕ) (all : Store) : Type 0 where
+pub record Remains (s o₀ : List ℕ) (to : ℕ) (o : List ℕ) (a b : Rest) (cursor count : ℕ) (all : Store) : Type 0 where
   pub m : Store
   pub n : Store
-  pub left : TwoStores s p i q j m n
+  pub left : TwoStores s a b m n
   pub done : List ℕ
   pub whole : done ++ entries cell_words (overlaid m n) ≡ entries cell_words all
   pub size : count + length (overlaid m n) ≡ length all
-  pub wrote : Wrote done o₀ to k o
+  pub wrote : Wrote done o₀ to cursor o
 
-pub record Laid
-    (s : List ℕ) (a n b m : ℕ) (o₀ : List ℕ) (to : ℕ) (o : List ℕ) (p i q j k count : ℕ)
+pub record Laid (s : List ℕ) (a₀ b₀ : Rest) (o₀ : List ℕ) (to : ℕ) (o : List ℕ) (a b : Rest) (cursor count : ℕ)
     : Type 0 where
-  pub high₁ : p ≤ length s
-  pub high₂ : q ≤ length s
-  pub few : count + (i + j) ≤ 512
-  pub room : k ≤ length o + 1
+  pub high₁ : a.at ≤ length s
+  pub high₂ : b.at ≤ length s
+  pub few : count + (a.count + b.count) ≤ 512
+  pub room : cursor ≤ length o + 1
   pub same : length o ≡ length o₀
-  pub sees : (x y : Store) → TwoStores s a n b m x y → Rest s o₀ to o p i q j k count (overlaid x y)
+  pub sees : (m n : Store) → TwoStores s a₀ b₀ m n → Remains s o₀ to o a b cursor count (overlaid m n)
 
 -- before the first turn, after the word in whose place the count goes
-pub lay_start : (s : List ℕ) (a n b m : ℕ) (o : List ℕ) (to k z : ℕ) (o₁ : List ℕ) → a ≤ length s → b ≤ length s
-    → n ≤ 256 → m ≤ 256 → Wrote (z ∷ []) o to k o₁ → Laid s a n b m o₁ k o₁ a n b m k 0
-lay_start s a n b m o to k z o₁ ha hb hn hm w =
+pub lay_start : (s : List ℕ) (a b : Rest) (o : List ℕ) (to k z : ℕ) (o₁ : List ℕ) → a.at ≤ length s → b.at ≤ length s
+    → a.count ≤ 256 → b.count ≤ 256 → Wrote (z ∷ []) o to k o₁ → Laid s a b o₁ k o₁ a b k 0
+lay_start s a b o to k z o₁ ha hb hm hn w =
     let (e, h) = wrote_size w in
     let room : k ≤ length o₁ + 1 = omega arith in
     record {
@@ -44,63 +44,60 @@ lay_start s a n b m o to k z o₁ ha hb hn hm w =
       few = omega arith;
       room = room;
       same = refl;
-      sees = λ x y st.
-          record { m = x; n = y; left = st; done = []; whole = refl; size = omega arith; wrote = wrote_nil o₁ k room };
+      sees = λ m n st.
+          record { m = m; n = n; left = st; done = []; whole = refl; size = omega arith; wrote = wrote_nil o₁ k room };
     }
 
-module _
-    (s : List ℕ) (a n b m : ℕ) (o₀ : List ℕ) (to : ℕ) (o : List ℕ) (p i q j k count : ℕ)
-    (g : Laid s a n b m o₀ to o p i q j k count)
+-- one entry more
+pub lay_turn : (s : List ℕ) (a₀ b₀ : Rest) (o₀ : List ℕ) (to : ℕ) (o : List ℕ) (a b : Rest) (k count : ℕ)
+    → Laid s a₀ b₀ o₀ to o a b k count → (t : Turn) → Turns s a b t → (e : ℕ) (o₁ : List ℕ)
+    → Wrote (part s t.entry.start t.entry.end) o k e o₁ → Laid s a₀ b₀ o₀ to o₁ t.first t.second e (count + 1)
+lay_turn s a₀ b₀ o₀ to o a b k count g t ts e o₁ w =
+    let z = wrote_size w in
+    record {
+      high₁ = ts.high₁;
+      high₂ = ts.high₂;
+      few = omega (arith, ts.fewer, g.few);
+      room = omega (arith, z.0, z.1);
+      same = z.0 ∙ g.same;
+      sees = λ m n st. go (g.sees m n st);
+    }
   where
-    pub lay_turn : (t : Turn) → Turns s p i q j t → (e : ℕ) (o₁ : List ℕ) → Wrote (part s t.from t.end) o k e o₁
-        → Laid s a n b m o₀ to o₁ t.p t.i t.q t.j e (count + 1)
-    lay_turn t ts e o₁ w =
-        let z = wrote_size w in
+    go : {all : Store} → Remains s o₀ to o a b k count all → Remains s o₀ to o₁ t.first t.second e (count + 1) all
+    go {all} v =
+        let u = ts.sees v.m v.n v.left in
+        let entry = u.key ∷ cell_words u.cell in
+        let after = entries cell_words (overlaid u.m u.n) in
+        let is : entries cell_words (overlaid v.m v.n) ≡ entry ++ after = ap (entries cell_words) u.rest in
+        let l : length (overlaid v.m v.n) ≡ suc (length (overlaid u.m u.n)) = ap length u.rest in
         record {
-          high₁ = ts.high₁;
-          high₂ = ts.high₂;
-          few = omega (arith, ts.fewer, g.few);
-          room = omega (arith, z.0, z.1);
-          same = z.0 ∙ g.same;
-          sees = λ x y st. go (g.sees x y st);
+          m = u.m;
+          n = u.n;
+          left = u.left;
+          done = v.done ++ entry;
+          whole = append_assoc v.done entry after ∙ ap (λ l. v.done ++ l) (sym is) ∙ v.whole;
+          size = omega (arith, v.size);
+          wrote = then v.wrote (wrote_as u.entry w);
         }
-      where
-        go : {all : Store} → Rest s o₀ to o p i q j k count all
-            → Rest s o₀ to o₁ t.p t.i t.q t.j e (count + 1) all
-        go {all} v =
-            let u = ts.sees v.m v.n v.left in
-            let entry = u.key ∷ cell_words u.cell in
-            let after = entries cell_words (overlaid u.m u.n) in
-            let is : entries cell_words (overlaid v.m v.n) ≡ entry ++ after = ap (entries cell_words) u.rest in
-            let l : length (overlaid v.m v.n) ≡ suc (length (overlaid u.m u.n)) = ap length u.rest in
-            record {
-              m = u.m;
-              n = u.n;
-              left = u.left;
-              done = v.done ++ entry;
-              whole = append_assoc v.done entry after ∙ ap (λ l. v.done ++ l) (sym is) ∙ v.whole;
-              size = omega (arith, v.size);
-              wrote = then v.wrote (wrote_as u.entry w);
-            }
 
 -- nothing is left, and the count goes in
-pub lay_done : (s : List ℕ) (a n b m : ℕ) (o : List ℕ) (to k z : ℕ) (o₁ o₂ o₃ : List ℕ) (p i q j e count r : ℕ)
-    → to ≤ length o + 1 → Wrote (z ∷ []) o to k o₁ → Laid s a n b m o₁ k o₂ p i q j e count → i + j ≤ 0
-    → Wrote (count ∷ []) o₂ to r o₃ → WroteOverlay s a n b m o to e o₃
+pub lay_done : (s : List ℕ) (a₀ b₀ : Rest) (o : List ℕ) (to k z : ℕ) (o₁ o₂ o₃ : List ℕ) (a b : Rest) (e count r : ℕ)
+    → Wrote (z ∷ []) o to k o₁ → Laid s a₀ b₀ o₁ k o₂ a b e count → a.count + b.count ≤ 0
+    → Wrote (count ∷ []) o₂ to r o₃ → WroteOverlay s a₀ b₀ o to e o₃
 unfolding overlaid
-lay_done s a n b m o to k z o₁ o₂ o₃ p i q j e count r h w g end f =
+lay_done s a₀ b₀ o to k z o₁ o₂ o₃ a b e count r w g end f =
     let (l₁, h₁) = wrote_size w in
     let (l₂, h₂) = wrote_size f in
     record {
       high = omega (arith, g.room, g.same);
       size = l₂ ∙ g.same ∙ l₁;
-      wrote = λ x y st. go (g.sees x y st);
+      wrote = λ m n st. go (g.sees m n st);
     }
   where
-    go : {all : Store} → Rest s o₁ k o₂ p i q j e count all → Wrote (counted cell_words all) o to e o₃
+    go : {all : Store} → Remains s o₁ k o₂ a b e count all → Wrote (counted cell_words all) o to e o₃
     go {all} v = none v.m v.n v.left.count₁ v.left.count₂ v.whole v.size
       where
-        none : (m n : Store) → length m ≡ i → length n ≡ j
+        none : (m n : Store) → length m ≡ a.count → length n ≡ b.count
             → v.done ++ entries cell_words (overlaid m n) ≡ entries cell_words all
             → count + length (overlaid m n) ≡ length all → Wrote (counted cell_words all) o to e o₃
         none (x ∷ m) n d₁ d₂ whole size = absurd (omega arith)
@@ -109,4 +106,4 @@ lay_done s a n b m o to k z o₁ o₂ o₃ p i q j e count r h w g end f =
             let d : v.done ≡ entries cell_words all = sym (append-nil v.done) ∙ whole in
             let c : count ≡ length all = omega arith in
             wrote_as (ap (λ l. count ∷ l) d ∙ ap (λ x. x ∷ entries cell_words all) c)
-            (recount o to k z count e r o₁ o₂ o₃ v.done h w v.wrote f)
+            (recount o to k z count e r o₁ o₂ o₃ v.done w v.wrote f)

@@ -1,6 +1,6 @@
 -- One turn of an overlay: which entry is next, and what is left of the two stores.
-use Prim.Native.Nat.{ℕ, zero, suc, ◌+◌, ◌-◌, ◌<◌, ◌≤◌}
-use mathlib.Core.Path.{◌≡◌, refl, sym, ◌∙◌}
+use Prim.Native.Nat.{ℕ, suc, ◌<◌, ◌≤◌}
+use mathlib.Core.Path.{◌≡◌, sym, ◌∙◌}
 use mathlib.Core.Logic.{◌⊎◌, inl, inr}
 use mathlib.Core.List.{List, [], ◌∷◌}
 use native.Mathlib.Omega.{arith}
@@ -8,72 +8,41 @@ use lib.ListN.{length, get_or}
 use Rattle.calculus.specs.Maps.{overlaid}
 use Rattle.calculus.specs.Stores.{Store}
 use Rattle.calculus.specs.Images.{entries, cell_words, Listed, ValidCell}
-use Rattle.image.specs.Standing.{Stands, EndsAt}
+use Rattle.image.specs.Standing.{Stands}
 use Rattle.image.proofs.Standing.{headed}
-use Rattle.write.specs.declared.overlay.Next.{Next}
-use Rattle.write.specs.declared.overlay.Next.TheVariants.{First, Second, Both}
-use Rattle.write.specs.Overlay.{Why, last, none, less, both, more, TwoStores, Turned, Turns}
+use Rattle.std.specs.declared.ops.Range.{Range}
+use Rattle.std.specs.declared.cmp.Ordering.TheVariants.{Less, Equal, Greater}
+use Rattle.write.specs.declared.overlay.Rest.{Rest}
+use Rattle.write.specs.declared.overlay.Turn.{Turn}
+use Rattle.write.specs.Overlay.{IsNext, SplitFirst, TwoStores, Turned, Turns}
 use Rattle.write.proofs.Entries.{entered}
 use Rattle.write.proofs.OverlaidMaps.{overlaid_first, overlaid_second, overlaid_both}
 
-positive : (i : ℕ) → (i ≡ 0 → ⊥) → 0 < i
-positive zero h = absurd (h refl)
-positive (suc i) h = omega arith
+abbrev turn : Range ℕ → Rest → Rest → Turn
+turn e a b = record { entry = e; first = a; second = b }
 
--- what the choice says of the counts and of the two keys
-module _ (s : List ℕ) (p i q j : ℕ) (some : 0 < i + j) where
-  first_why : (w : Next) → Why s p i q j w → w ≡ First → (0 < i) × ((j ≡ 0) ⊎ (get_or s p 0 < get_or s q 0))
-  first_why First (last z) h = (omega arith, inl z)
-  first_why First (less a b x y u v l) h = (positive i b, inr (omega arith))
-  first_why Second (none a z) h = absurd (let z : ◌≡◌ {A = ℕ} 0 1 = cc in omega arith)
-  first_why Second (more a b x y u v l d) h = absurd (let z : ◌≡◌ {A = ℕ} 0 1 = cc in omega arith)
-  first_why Both (both a b x y u v l) h = absurd (let z : ◌≡◌ {A = ℕ} 0 1 = cc in omega arith)
-
-  second_why : (w : Next) → Why s p i q j w → w ≡ Second → (0 < j) × ((i ≡ 0) ⊎ (get_or s q 0 < get_or s p 0))
-  second_why First (last z) h = absurd (let z : ◌≡◌ {A = ℕ} 0 1 = cc in omega arith)
-  second_why First (less a b x y u v l) h = absurd (let z : ◌≡◌ {A = ℕ} 0 1 = cc in omega arith)
-  second_why Second (none a z) h = (positive j a, inl z)
-  second_why Second (more a b x y u v l d) h = (positive j a, inr (omega arith))
-  second_why Both (both a b x y u v l) h = absurd (let z : ◌≡◌ {A = ℕ} 0 1 = cc in omega arith)
-
-  both_why : (w : Next) → Why s p i q j w → w ≡ Both → (0 < i) × (0 < j) × (get_or s p 0 ≡ get_or s q 0)
-  both_why First (last z) h = absurd (let z : ◌≡◌ {A = ℕ} 0 1 = cc in omega arith)
-  both_why First (less a b x y u v l) h = absurd (let z : ◌≡◌ {A = ℕ} 0 1 = cc in omega arith)
-  both_why Second (none a z) h = absurd (let z : ◌≡◌ {A = ℕ} 0 1 = cc in omega arith)
-  both_why Second (more a b x y u v l d) h = absurd (let z : ◌≡◌ {A = ℕ} 0 1 = cc in omega arith)
-  both_why Both (both a b x y u v l) h = (positive i b, positive j a, omega arith)
-
-  pub first_left : (w : Next) → Why s p i q j w → w ≡ First → 0 < i
-  first_left w y h = (first_why w y h).0
-
-  pub second_left : (w : Next) → Why s p i q j w → w ≡ Second → 0 < j
-  second_left w y h = (second_why w y h).0
-
-  pub both_left₁ : (w : Next) → Why s p i q j w → w ≡ Both → 0 < i
-  both_left₁ w y h = (both_why w y h).0
-
-  pub both_left₂ : (w : Next) → Why s p i q j w → w ≡ Both → 0 < j
-  both_left₂ w y h = (both_why w y h).1
-
--- a store of j entries at q that has none, or whose first key is over k, has only keys over k
-over_all : (s : List ℕ) (q j k low : ℕ) (m : Store) → Listed ValidCell 255 low m → Stands s q (entries cell_words m)
-    → length m ≡ j → (j ≡ 0) ⊎ (k < get_or s q 0) → Listed ValidCell 255 (suc k) m
+-- what is left of a store that has nothing left, or whose first key is over k, has only keys over k
+over_all : (s : List ℕ) (b : Rest) (k low : ℕ) (m : Store) → Listed ValidCell 255 low m
+    → Stands s b.at (entries cell_words m) → length m ≡ b.count → (b.count ≡ 0) ⊎ (k < get_or s b.at 0)
+    → Listed ValidCell 255 (suc k) m
 unfolding Listed
-over_all s q j k low [] v h c o = tt
-over_all s q j k low (x ∷ m) v h c (inl z) = absurd (omega arith)
-over_all s q j k low (x ∷ m) (a, b, f, r) h c (inr l) = let e = (headed h).is in (omega arith, b, f, r)
+over_all s b k low [] v h c o = tt
+over_all s b k low (x ∷ m) v h c (inl z) = absurd (omega arith)
+over_all s b k low (x ∷ m) (i, j, f, r) h c (inr l) = let e = (headed h).is in (omega arith, j, f, r)
 
-module _ (s : List ℕ) (p i q j : ℕ) (some : 0 < i + j) (w : Next) (why : Why s p i q j w) where
-  module _ (h : w ≡ First) (e : ℕ) (ends : EndsAt s (p + 1) e) where
-    first_sees : (m n : Store) → TwoStores s p i q j m n
-        → Turned s (record { from = p; end = e; p = e; i = i - 1; q = q; j = j }) (overlaid m n)
+module _ (s : List ℕ) (a b : Rest) where
+  keys : IsNext s a b Less → (b.count ≡ 0) ⊎ (get_or s a.at 0 < get_or s b.at 0)
+  keys (inl z) = inl z
+  keys (inr (i, l)) = inr l
+
+  -- the first store's entry is next
+  module _ (e : Range ℕ) (r : Rest) (p : SplitFirst s a e r) (o : IsNext s a b Less) where
+    first_sees : (m n : Store) → TwoStores s a b m n → Turned s (turn e r b) (overlaid m n)
     unfolding Listed
-    first_sees [] n st = let l = first_left s p i q j some w why h in let c = st.count₁ in absurd (omega arith)
+    first_sees [] n st = absurd (omega (arith, p.fewer, st.count₁))
     first_sees (x ∷ m) n st =
-        let (a, b, ok, r) = st.valid₁ in
-        let g = entered s p e x m ok ends st.at₁ in
-        let c = st.count₁ in
-        let (l, o) = first_why s p i q j some w why h in
+        let (i, j, ok, v) = st.valid₁ in
+        let g = entered s a.at r.at x m ok p.ends st.at₁ in
         record {
           key = x.0;
           cell = x.1;
@@ -82,81 +51,67 @@ module _ (s : List ℕ) (p i q j : ℕ) (some : 0 < i + j) (w : Next) (why : Why
           left = record {
             low₁ = suc x.0;
             low₂ = st.low₂;
-            valid₁ = r;
+            valid₁ = v;
             valid₂ = st.valid₂;
             at₁ = g.more;
             at₂ = st.at₂;
-            count₁ = omega arith;
+            count₁ = omega (arith, p.fewer, st.count₁);
             count₂ = st.count₂;
           };
-          entry = g.whole;
-          rest = overlaid_first ValidCell 255 x m n
-              (over_all s q j x.0 st.low₂ n st.valid₂ st.at₂ st.count₂ (lower g.is o));
+          entry = rw p.words g.whole;
+          rest = overlaid_first ValidCell 255 x m n (over_all s b x.0 st.low₂ n st.valid₂ st.at₂ st.count₂ (rw g.is at (keys o)));
         }
-      where
-        lower : {k l : ℕ} → k ≡ l → (j ≡ 0) ⊎ (k < get_or s q 0) → (j ≡ 0) ⊎ (l < get_or s q 0)
-        lower z (inl y) = inl y
-        lower z (inr l) = inr (omega arith)
 
-    pub turn_first : q ≤ length s → Turns s p i q j (record { from = p; end = e; p = e; i = i - 1; q = q; j = j })
+    pub turn_first : b.at ≤ length s → Turns s a b (turn e r b)
     turn_first l =
-        let k = first_left s p i q j some w why h in
-        record { end = ends.high; high₁ = ends.high; high₂ = l; fewer = omega arith; sees = first_sees }
+        let h = p.ends.high in
+        record { end = rw p.words h; high₁ = h; high₂ = l; fewer = omega (arith, p.fewer); sees = first_sees }
 
-  module _ (e : ℕ) (ends : EndsAt s (q + 1) e) where
-    second_sees : w ≡ Second → (m n : Store) → TwoStores s p i q j m n
-        → Turned s (record { from = q; end = e; p = p; i = i; q = e; j = j - 1 }) (overlaid m n)
-    unfolding Listed
-    second_sees h m [] st = let l = second_left s p i q j some w why h in let c = st.count₂ in absurd (omega arith)
-    second_sees h m (y ∷ n) st =
-        let (a, b, ok, r) = st.valid₂ in
-        let g = entered s q e y n ok ends st.at₂ in
-        let c = st.count₂ in
-        let (l, o) = second_why s p i q j some w why h in
-        record {
-          key = y.0;
-          cell = y.1;
-          m = m;
-          n = n;
-          left = record {
-            low₁ = st.low₁;
-            low₂ = suc y.0;
-            valid₁ = st.valid₁;
-            valid₂ = r;
-            at₁ = st.at₁;
-            at₂ = g.more;
-            count₁ = st.count₁;
-            count₂ = omega arith;
-          };
-          entry = g.whole;
-          rest = overlaid_second ValidCell 255 y m n
-              (over_all s p i y.0 st.low₁ m st.valid₁ st.at₁ st.count₁ (lower g.is o)) r;
-        }
-      where
-        lower : {k l : ℕ} → k ≡ l → (i ≡ 0) ⊎ (k < get_or s p 0) → (i ≡ 0) ⊎ (l < get_or s p 0)
-        lower z (inl y) = inl y
-        lower z (inr l) = inr (omega arith)
-
-    pub turn_second : w ≡ Second → p ≤ length s
-        → Turns s p i q j (record { from = q; end = e; p = p; i = i; q = e; j = j - 1 })
-    turn_second h l =
-        let k = second_left s p i q j some w why h in
-        record { end = ends.high; high₁ = l; high₂ = ends.high; fewer = omega arith; sees = second_sees h }
-
-    module _ (f : ℕ) (fends : EndsAt s (p + 1) f) (h : w ≡ Both) where
-      both_sees : (m n : Store) → TwoStores s p i q j m n
-          → Turned s (record { from = q; end = e; p = f; i = i - 1; q = e; j = j - 1 }) (overlaid m n)
+  module _ (e : Range ℕ) (r : Rest) (p : SplitFirst s b e r) where
+    -- the second store's
+    module _ (o : IsNext s a b Greater) where
+      second_sees : (m n : Store) → TwoStores s a b m n → Turned s (turn e a r) (overlaid m n)
       unfolding Listed
-      both_sees m [] st = let l = both_left₂ s p i q j some w why h in let c = st.count₂ in absurd (omega arith)
-      both_sees [] (y ∷ n) st = let l = both_left₁ s p i q j some w why h in let c = st.count₁ in absurd (omega arith)
+      second_sees m [] st = absurd (omega (arith, p.fewer, st.count₂))
+      second_sees m (y ∷ n) st =
+          let (i, j, ok, v) = st.valid₂ in
+          let g = entered s b.at r.at y n ok p.ends st.at₂ in
+          record {
+            key = y.0;
+            cell = y.1;
+            m = m;
+            n = n;
+            left = record {
+              low₁ = st.low₁;
+              low₂ = suc y.0;
+              valid₁ = st.valid₁;
+              valid₂ = v;
+              at₁ = st.at₁;
+              at₂ = g.more;
+              count₁ = st.count₁;
+              count₂ = omega (arith, p.fewer, st.count₂);
+            };
+            entry = rw p.words g.whole;
+            rest = overlaid_second ValidCell 255 y m n
+                (over_all s a y.0 st.low₁ m st.valid₁ st.at₁ st.count₁ (rw g.is at o.1)) v;
+          }
+
+      pub turn_second : a.at ≤ length s → Turns s a b (turn e a r)
+      turn_second l =
+          let h = p.ends.high in
+          record { end = rw p.words h; high₁ = l; high₂ = h; fewer = omega (arith, p.fewer); sees = second_sees }
+
+    -- the second store's in place of the first's
+    module _ (d : Range ℕ) (q : Rest) (f : SplitFirst s a d q) (o : IsNext s a b Equal) where
+      both_sees : (m n : Store) → TwoStores s a b m n → Turned s (turn e q r) (overlaid m n)
+      unfolding Listed
+      both_sees m [] st = absurd (omega (arith, p.fewer, st.count₂))
+      both_sees [] (y ∷ n) st = absurd (omega (arith, f.fewer, st.count₁))
       both_sees (x ∷ m) (y ∷ n) st =
-          let (a, b, ok, r) = st.valid₁ in
-          let (a', b', ok', r') = st.valid₂ in
-          let g = entered s q e y n ok' ends st.at₂ in
-          let k = entered s p f x m ok fends st.at₁ in
-          let c = st.count₁ in
-          let d = st.count₂ in
-          let (l, l', o) = both_why s p i q j some w why h in
+          let (i, j, ok, v) = st.valid₁ in
+          let (i', j', ok', v') = st.valid₂ in
+          let g = entered s b.at r.at y n ok' p.ends st.at₂ in
+          let k = entered s a.at q.at x m ok f.ends st.at₁ in
           record {
             key = y.0;
             cell = y.1;
@@ -165,24 +120,23 @@ module _ (s : List ℕ) (p i q j : ℕ) (some : 0 < i + j) (w : Next) (why : Why
             left = record {
               low₁ = suc x.0;
               low₂ = suc y.0;
-              valid₁ = r;
-              valid₂ = r';
+              valid₁ = v;
+              valid₂ = v';
               at₁ = k.more;
               at₂ = g.more;
-              count₁ = omega arith;
-              count₂ = omega arith;
+              count₁ = omega (arith, f.fewer, st.count₁);
+              count₂ = omega (arith, p.fewer, st.count₂);
             };
-            entry = g.whole;
-            rest = overlaid_both ValidCell 255 x y m n (sym k.is ∙ o ∙ g.is) r';
+            entry = rw p.words g.whole;
+            rest = overlaid_both ValidCell 255 x y m n (sym k.is ∙ o.2 ∙ g.is) v';
           }
 
-      pub turn_both : Turns s p i q j (record { from = q; end = e; p = f; i = i - 1; q = e; j = j - 1 })
+      pub turn_both : Turns s a b (turn e q r)
       turn_both =
-          let (l, l', o) = both_why s p i q j some w why h in
           record {
-            end = ends.high;
-            high₁ = fends.high;
-            high₂ = ends.high;
-            fewer = omega arith;
+            end = rw p.words p.ends.high;
+            high₁ = f.ends.high;
+            high₂ = p.ends.high;
+            fewer = omega (arith, p.fewer, f.fewer);
             sees = both_sees;
           }

@@ -9,14 +9,14 @@ use Rattle.write.specs.declared.entry.Hole.{Hole}
 use Rattle.write.specs.Cursor.{part, Wrote}
 
 pub record HoleAt (s : List ℕ) (store l : ℕ) (m : Store) (r : Hole) : Type 0 where
-  pub at : r.at ≡ store + 1 + length (entries cell_words (before l m))
-  pub after : Stands s r.next (entries cell_words (beyond l m))
-  pub end : r.next + length (entries cell_words (beyond l m)) ≡ store + length (counted cell_words m)
+  pub at : r.entry.start ≡ store + 1 + length (entries cell_words (before l m))
+  pub after : Stands s r.entry.end (entries cell_words (beyond l m))
+  pub end : r.entry.end + length (entries cell_words (beyond l m)) ≡ store + length (counted cell_words m)
   pub count : r.count ≡ suc (length (before l m) + length (beyond l m))
 
 pub record Holes (s : List ℕ) (store l : ℕ) (r : Hole) : Type 0 where
-  pub high₁ : r.at ≤ length s
-  pub high₂ : r.next ≤ length s
+  pub high₁ : r.entry.start ≤ length s
+  pub high₂ : r.entry.end ≤ length s
   pub cut : (m : Store) → ValidStore m → Stands s store (counted cell_words m) → HoleAt s store l m r
 
 pub record WrotePut (s : List ℕ) (store end l a b : ℕ) (o : List ℕ) (to r : ℕ) (o' : List ℕ) : Type 0 where

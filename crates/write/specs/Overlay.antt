@@ -1,33 +1,38 @@
 -- What the overlay of two stores on words promises, for all valid stores that stand there.
-use Rattle.std.specs.Prelude.{ℕ, ◌+◌, ◌≤◌, ◌<◌, ◌≡◌, List, ◌∷◌, length, get_or}
+use Rattle.std.specs.Prelude.{ℕ, suc, ◌+◌, ◌≤◌, ◌<◌, ◌≡◌, ◌⊎◌, List, ◌∷◌, length, get_or}
+use Rattle.std.specs.declared.ops.Range.{Range}
+use Rattle.std.specs.declared.cmp.Ordering.{Ordering}
+use Rattle.std.specs.declared.cmp.Ordering.TheVariants.{Less, Equal, Greater}
 use Rattle.calculus.specs.Maps.{overlaid}
 use Rattle.calculus.specs.Stores.{Cell, Store}
 use Rattle.calculus.specs.Images.{entries, counted, cell_words, Listed, ValidCell}
-use Rattle.image.specs.Standing.{Stands}
-use Rattle.write.specs.declared.overlay.Next.{Next}
-use Rattle.write.specs.declared.overlay.Next.TheVariants.{First, Second, Both}
+use Rattle.image.specs.Standing.{Stands, EndsAt}
+use Rattle.write.specs.declared.overlay.Rest.{Rest}
 use Rattle.write.specs.declared.overlay.Turn.{Turn}
 use Rattle.write.specs.Cursor.{part, Wrote}
 
--- why that entry is next, of i entries at p and j at q
-pub data Why (s : List ℕ) (p i q j : ℕ) : Next → Type 0 where
-  last : j ≡ 0 → Why s p i q j First
-  none : (j ≡ 0 → ⊥) → i ≡ 0 → Why s p i q j Second
-  less : (j ≡ 0 → ⊥) → (i ≡ 0 → ⊥) → (x y : ℕ) → x ≡ get_or s p 0 → y ≡ get_or s q 0 → x < y → Why s p i q j First
-  both : (j ≡ 0 → ⊥) → (i ≡ 0 → ⊥) → (x y : ℕ) → x ≡ get_or s p 0 → y ≡ get_or s q 0 → x ≡ y → Why s p i q j Both
-  more : (j ≡ 0 → ⊥) → (i ≡ 0 → ⊥) → (x y : ℕ) → x ≡ get_or s p 0 → y ≡ get_or s q 0 → y ≤ x → (x ≡ y → ⊥)
-      → Why s p i q j Second
+-- whose entry is next, by what is left of the two stores and the keys of their next entries
+abbrev pub IsNext : List ℕ → Rest → Rest → Ordering → Type 0
+IsNext s a b Less = (b.count ≡ 0) ⊎ ((0 < a.count) × (get_or s a.at 0 < get_or s b.at 0))
+IsNext s a b Equal = (0 < a.count) × (0 < b.count) × (get_or s a.at 0 ≡ get_or s b.at 0)
+IsNext s a b Greater = (0 < b.count) × ((a.count ≡ 0) ⊎ (get_or s b.at 0 < get_or s a.at 0))
+
+-- an entry is its key, one word, and its cell, which ends where the next entry starts
+pub record SplitFirst (s : List ℕ) (a : Rest) (entry : Range ℕ) (r : Rest) : Type 0 where
+  pub words : entry ≡ record { start = a.at; end = r.at }
+  pub ends : EndsAt s (a.at + 1) r.at
+  pub fewer : suc r.count ≡ a.count
 
 -- two valid stores, or what is left of them, that stand in s
-pub record TwoStores (s : List ℕ) (p i q j : ℕ) (m n : Store) : Type 0 where
+pub record TwoStores (s : List ℕ) (a b : Rest) (m n : Store) : Type 0 where
   pub low₁ : ℕ
   pub low₂ : ℕ
   pub valid₁ : Listed ValidCell 255 low₁ m
   pub valid₂ : Listed ValidCell 255 low₂ n
-  pub at₁ : Stands s p (entries cell_words m)
-  pub at₂ : Stands s q (entries cell_words n)
-  pub count₁ : length m ≡ i
-  pub count₂ : length n ≡ j
+  pub at₁ : Stands s a.at (entries cell_words m)
+  pub at₂ : Stands s b.at (entries cell_words n)
+  pub count₁ : length m ≡ a.count
+  pub count₂ : length n ≡ b.count
 
 -- the overlay's first entry stands there, and the rest is the overlay of what is left
 pub record Turned (s : List ℕ) (r : Turn) (all : Store) : Type 0 where
@@ -35,18 +40,18 @@ pub record Turned (s : List ℕ) (r : Turn) (all : Store) : Type 0 where
   pub cell : Cell
   pub m : Store
   pub n : Store
-  pub left : TwoStores s r.p r.i r.q r.j m n
-  pub entry : part s r.from r.end ≡ key ∷ cell_words cell
+  pub left : TwoStores s r.first r.second m n
+  pub entry : part s r.entry.start r.entry.end ≡ key ∷ cell_words cell
   pub rest : all ≡ (key, cell) ∷ overlaid m n
 
-pub record Turns (s : List ℕ) (p i q j : ℕ) (r : Turn) : Type 0 where
-  pub end : r.end ≤ length s
-  pub high₁ : r.p ≤ length s
-  pub high₂ : r.q ≤ length s
-  pub fewer : r.i + r.j < i + j
-  pub sees : (m n : Store) → TwoStores s p i q j m n → Turned s r (overlaid m n)
+pub record Turns (s : List ℕ) (a b : Rest) (r : Turn) : Type 0 where
+  pub end : r.entry.end ≤ length s
+  pub high₁ : r.first.at ≤ length s
+  pub high₂ : r.second.at ≤ length s
+  pub fewer : r.first.count + r.second.count < a.count + b.count
+  pub sees : (m n : Store) → TwoStores s a b m n → Turned s r (overlaid m n)
 
-pub record WroteOverlay (s : List ℕ) (a n b m : ℕ) (o : List ℕ) (to r : ℕ) (o' : List ℕ) : Type 0 where
+pub record WroteOverlay (s : List ℕ) (a b : Rest) (o : List ℕ) (to r : ℕ) (o' : List ℕ) : Type 0 where
   pub high : r ≤ length o + 1
   pub size : length o' ≡ length o
-  pub wrote : (x y : Store) → TwoStores s a n b m x y → Wrote (counted cell_words (overlaid x y)) o to r o'
+  pub wrote : (m n : Store) → TwoStores s a b m n → Wrote (counted cell_words (overlaid m n)) o to r o'

@@ -2,32 +2,36 @@
 ghost use Rattle.std.specs.Prelude.{◌+◌, ◌≤◌, [], ◌∷◌, length};
 ghost use Rattle.write.specs.Cursor.{Wrote, part};
 
-// Writes the word w at the cursor.
+use std::ops::Range;
+
+// Writes the word w at the cursor. The buffer and the place are two parameters: as fields of one struct, each function
+// that writes would also have to promise that the struct keeps the caller's reference (its ghost_name).
 pub fn put_word(out: &mut [u16], to: usize, w: u16) -> usize
-    requires { to ≤ length out.old + 1 }
     ensures { Wrote (w ∷ []) out.old to result out.new }
 {
-    if out.len() <= to {
-        return out.len() + 1;
-    }
-    out[to] = w;
-    to + 1
+    put_words(out, to, &[w])
 }
 
-// Writes the words of s from a to b at the cursor.
-pub fn copy_part(s: &[u16], a: usize, b: usize, out: &mut [u16], to: usize) -> usize
-    requires { (b ≤ length s.now) × (to ≤ length out.old + 1) }
-    ensures { Wrote (part s.now a b) out.old to result out.new }
+// Writes the words at the cursor.
+pub fn put_words(out: &mut [u16], to: usize, words: &[u16]) -> usize
+    ensures { Wrote words.now out.old to result out.new }
 {
-    let mut i = a;
-    let mut j = to;
-    while i < b {
-        if out.len() <= j {
-            return out.len() + 1;
-        }
-        out[j] = s[i];
-        i += 1;
-        j += 1;
+    if out.len() < to {
+        return out.len() + 1;
     }
-    j
+    let room = out.len() - to;
+    if room < words.len() {
+        out[to..].copy_from_slice(&words[..room]);
+        return out.len() + 1;
+    }
+    out[to..to + words.len()].copy_from_slice(words);
+    to + words.len()
+}
+
+// Writes the words of s in the range at the cursor.
+pub fn copy_part(s: &[u16], range: Range<usize>, out: &mut [u16], to: usize) -> usize
+    requires { range.end ≤ length s.now }
+    ensures { Wrote (part s.now range.start range.end) out.old to result out.new }
+{
+    put_words(out, to, s.get(range).unwrap_or(&[]))
 }

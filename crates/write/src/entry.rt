@@ -1,16 +1,16 @@
 // A store with the value of one location put in its place.
-ghost use Rattle.std.specs.Prelude.{◌+◌, ◌<◌, ◌≤◌, length, get_or};
+ghost use Rattle.std.specs.Prelude.{◌<◌, ◌≤◌, length, get_or};
 ghost use Rattle.write.specs.Entry.{Holes, WrotePut};
 
 use crate::cursor::{copy_part, put_word};
 use image::nodes::past;
 use image::parts::seek_entry;
+use std::ops::Range;
 
-// Where the entry of a location goes: those before it end at `at`, those after it start at `next`; the count then.
+// Where the entry of a location goes: in place of the words of `entry`, none where it has none yet; the count then.
 #[derive(Drop)]
 pub struct Hole {
-    pub at: usize,
-    pub next: usize,
+    pub entry: Range<usize>,
     pub count: u16,
 }
 
@@ -19,41 +19,36 @@ fn hole_for(s: &[u16], store: usize, l: u16) -> Hole
     ensures { Holes s.now store l result }
 {
     let n = s[store];
-    let k = seek_entry(s, store + 1, n as usize, l);
-    let at = k.at;
-    if k.hit {
-        let next = past(s, at + 1);
-        return Hole { at, next, count: n };
-    }
-    Hole {
-        at,
-        next: at,
-        count: n + 1,
+    match seek_entry(s, store + 1, n as usize, l) {
+        Ok(at) => Hole {
+            entry: at..past(s, at + 1),
+            count: n,
+        },
+        Err(at) => Hole {
+            entry: at..at,
+            count: n + 1,
+        },
     }
 }
 
-// Writes the store whose count stands at `store` and that ends at `end`, with the words of s from `a` to `b` as the
+// Writes the store that stands in the range `store`, its count first, with the words of s in the range `cell` as the
 // cell of location l.
 pub fn put_entry(
     s: &[u16],
-    store: usize,
-    end: usize,
+    store: Range<usize>,
     l: u16,
-    a: usize,
-    b: usize,
+    cell: Range<usize>,
     out: &mut [u16],
     to: usize,
 ) -> usize
-    requires { (store < length s.now) × (end ≤ length s.now) × (b ≤ length s.now) × (to ≤ length out.old + 1)
-        × (get_or s.now store 0 ≤ 256) }
-    ensures { WrotePut s.now store end l a b out.old to result out.new }
+    requires { (store.start < length s.now) × (store.end ≤ length s.now) × (cell.end ≤ length s.now)
+        × (get_or s.now store.start 0 ≤ 256) }
+    ensures { WrotePut s.now store.start store.end l cell.start cell.end out.old to result out.new }
 {
-    let h = hole_for(s, store, l);
-    let at = h.at;
-    let next = h.next;
-    let c = put_word(out, to, h.count);
-    let d = copy_part(s, store + 1, at, out, c);
-    let e = put_word(out, d, l);
-    let f = copy_part(s, a, b, out, e);
-    copy_part(s, next, end, out, f)
+    let hole = hole_for(s, store.start, l);
+    let to = put_word(out, to, hole.count);
+    let to = copy_part(s, store.start + 1..hole.entry.start, out, to);
+    let to = put_word(out, to, l);
+    let to = copy_part(s, cell, out, to);
+    copy_part(s, hole.entry.end..store.end, out, to)
 }

@@ -1,121 +1,108 @@
 // The overlay of two stores whose entries stand in the same words, by rising location.
 ghost use Rattle.std.specs.Prelude.{◌+◌, ◌<◌, ◌≤◌, length};
-ghost use Rattle.write.specs.Overlay.{Why, Turns, WroteOverlay};
+ghost use Rattle.write.specs.Overlay.{IsNext, SplitFirst, Turns, WroteOverlay};
 
 use crate::cursor::{copy_part, put_word};
 use image::nodes::{past, word_at};
+use std::cmp::Ordering;
+use std::ops::Range;
 
-// Which entry is next: the first store's, the second's, or the second's in place of the first's.
-#[derive(Drop)]
-pub enum Next {
-    First,
-    Second,
-    Both,
+// What is left of a store: so many entries, the first of which stands at `at`.
+#[derive(Clone, Copy, PartialEq, Eq, Debug)]
+pub struct Rest {
+    pub at: usize,
+    pub count: usize,
 }
 
-fn next_of(s: &[u16], p: usize, i: usize, q: usize, j: usize) -> Next
-    ensures { Why s.now p i q j result }
+impl Rest {
+    // The words of its first entry, and what is left after it.
+    fn split_first(self, s: &[u16]) -> (Range<usize>, Rest)
+        requires { (self.at ≤ length s.now) × (0 < self.count) }
+        ensures { SplitFirst s.now self result.0 result.1 }
+    {
+        let end = past(s, self.at + 1);
+        let left = Rest {
+            at: end,
+            count: self.count - 1,
+        };
+        (self.at..end, left)
+    }
+}
+
+// Whose entry is next: the first store's, the second's, or of one location both, and the second's is written.
+fn next_of(s: &[u16], first: Rest, second: Rest) -> Ordering
+    ensures { IsNext s.now first second result }
 {
-    if j == 0 {
-        return Next::First;
+    if second.count == 0 {
+        return Ordering::Less;
     }
-    if i == 0 {
-        return Next::Second;
+    if first.count == 0 {
+        return Ordering::Greater;
     }
-    let x = word_at(s, p);
-    let y = word_at(s, q);
-    if x < y {
-        return Next::First;
-    }
-    if x == y {
-        return Next::Both;
-    }
-    Next::Second
+    word_at(s, first.at).cmp(&word_at(s, second.at))
 }
 
-// The next entry stands from `from` to `end`; i entries of the first store are then left at p, j of the second at q.
+// The words of the overlay's next entry, and what is then left of the two stores.
 #[derive(Drop)]
 pub struct Turn {
-    pub from: usize,
-    pub end: usize,
-    pub p: usize,
-    pub i: usize,
-    pub q: usize,
-    pub j: usize,
+    pub entry: Range<usize>,
+    pub first: Rest,
+    pub second: Rest,
 }
 
-pub fn advance(s: &[u16], p: usize, i: usize, q: usize, j: usize) -> Turn
-    requires { (p ≤ length s.now) × (q ≤ length s.now) × (0 < i + j) }
-    ensures { Turns s.now p i q j result }
+fn advance(s: &[u16], first: Rest, second: Rest) -> Turn
+    requires { (first.at ≤ length s.now) × (second.at ≤ length s.now) × (0 < first.count + second.count) }
+    ensures { Turns s.now first second result }
 {
-    match next_of(s, p, i, q, j) {
-        Next::First => {
-            let e = past(s, p + 1);
+    match next_of(s, first, second) {
+        Ordering::Less => {
+            let (entry, first) = first.split_first(s);
             Turn {
-                from: p,
-                end: e,
-                p: e,
-                i: i - 1,
-                q,
-                j,
+                entry,
+                first,
+                second,
             }
         }
-        Next::Second => {
-            let e = past(s, q + 1);
+        Ordering::Greater => {
+            let (entry, second) = second.split_first(s);
             Turn {
-                from: q,
-                end: e,
-                p,
-                i,
-                q: e,
-                j: j - 1,
+                entry,
+                first,
+                second,
             }
         }
-        Next::Both => {
-            let e = past(s, q + 1);
-            let f = past(s, p + 1);
+        Ordering::Equal => {
+            let (entry, second) = second.split_first(s);
+            let (_, first) = first.split_first(s);
             Turn {
-                from: q,
-                end: e,
-                p: f,
-                i: i - 1,
-                q: e,
-                j: j - 1,
+                entry,
+                first,
+                second,
             }
         }
     }
 }
 
-// Writes the n entries at `a` overlaid by the m entries at `b`, after their count.
+// Writes the first store overlaid by the second, after the count of its entries.
 pub fn overlay_into(
     s: &[u16],
-    a: usize,
-    n: usize,
-    b: usize,
-    m: usize,
+    mut first: Rest,
+    mut second: Rest,
     out: &mut [u16],
     to: usize,
 ) -> usize
-    requires { (a ≤ length s.now) × (b ≤ length s.now) × (n ≤ 256) × (m ≤ 256) × (to ≤ length out.old + 1) }
-    ensures { WroteOverlay s.now a n b m out.old to result out.new }
+    requires { (first.at ≤ length s.now) × (second.at ≤ length s.now) × (first.count ≤ 256) × (second.count ≤ 256) }
+    ensures { WroteOverlay s.now first second out.old to result out.new }
 {
-    let mut p = a;
-    let mut i = n;
-    let mut q = b;
-    let mut j = m;
     let mut count: u16 = 0;
-    let mut k = put_word(out, to, 0);
-    while 0 < i + j {
-        let t = advance(s, p, i, q, j);
-        let from = t.from;
-        let end = t.end;
-        k = copy_part(s, from, end, out, k);
+    let mut cursor = put_word(out, to, 0);
+    while 0 < first.count + second.count {
+        let turn = advance(s, first, second);
+        cursor = copy_part(s, turn.entry, out, cursor);
         count += 1;
-        p = t.p;
-        i = t.i;
-        q = t.q;
-        j = t.j;
+        first = turn.first;
+        second = turn.second;
     }
     put_word(out, to, count);
-    k
+    cursor
 }

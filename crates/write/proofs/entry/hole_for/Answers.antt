@@ -2,8 +2,8 @@
 use Rattle.write.proofs.Putting.{hole_hit, hole_miss}
 use Rattle.write.proofs.entry.hole_for.Goals as goal
 
-pub returns-then-k : goal.returns-then-k
-returns-then-k c = search hole_hit
+pub returns-in-Ok : goal.returns-in-Ok
+returns-in-Ok c = search (hole_hit, c.in-Ok.ensures)
 
-pub returns : goal.returns
-returns c = search hole_miss
+pub returns-in-Err : goal.returns-in-Err
+returns-in-Err c = search (hole_miss, c.in-Err.ensures)

@@ -2,11 +2,11 @@
 use Rattle.write.proofs.Merging.{turn_first, turn_second, turn_both}
 use Rattle.write.proofs.overlay.advance.Goals as goal
 
-pub returns-in-First : goal.returns-in-First
-returns-in-First c = search turn_first
+pub returns-in-Less : goal.returns-in-Less
+returns-in-Less c = search (turn_first, c.in-Less.ensures)
 
-pub returns-in-Second : goal.returns-in-Second
-returns-in-Second c = search turn_second
+pub returns-in-Greater : goal.returns-in-Greater
+returns-in-Greater c = search (turn_second, c.in-Greater.ensures)
 
-pub returns-in-Both : goal.returns-in-Both
-returns-in-Both c = search turn_both
+pub returns-in-Equal : goal.returns-in-Equal
+returns-in-Equal c = search (turn_both, c.in-Equal.ensures)

@@ -2,8 +2,8 @@
 use Rattle.write.proofs.Laying.{lay_turn, lay_done}
 use Rattle.write.proofs.overlay.overlay_into.Goals as goal
 
-pub loop-i-preserved : goal.loop-i-preserved
-loop-i-preserved c = search lay_turn
+pub loop-first-preserved : goal.loop-first-preserved
+loop-first-preserved c = search lay_turn
 
 pub returns : goal.returns
 returns c = search lay_done

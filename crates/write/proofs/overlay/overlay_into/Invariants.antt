@@ -3,8 +3,8 @@ use Rattle.std.proofs.Common.{◌+◌}
 use Rattle.write.proofs.Laying.{Laid}
 use Rattle.write.proofs.overlay.overlay_into.Given as goal
 
-abbrev pub invariant-loop-i : goal.invariant-loop-i
-invariant-loop-i l = Laid l.s l.a l.n l.b l.m l.initial.out l.initial.k l.out l.p l.i l.q l.j l.k l.count
+abbrev pub invariant-loop-first : goal.invariant-loop-first
+invariant-loop-first l = Laid l.s l.fn.first l.fn.second l.initial.out l.initial.cursor l.out l.first l.second l.cursor l.count
 
-abbrev pub decreases-loop-i : goal.decreases-loop-i
-decreases-loop-i l = l.i + l.j
+abbrev pub decreases-loop-first : goal.decreases-loop-first
+decreases-loop-first l = l.first.count + l.second.count
