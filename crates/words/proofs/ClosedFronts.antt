@@ -2,13 +2,14 @@
 use Prim.Native.Nat.{ℕ, suc, ◌+◌, ◌<◌, ◌≤◌}
 use mathlib.Core.Bool.{Bool, true, false}
 use mathlib.Core.List.{List}
-use mathlib.Core.Option.{Option, none, some}
+use mathlib.Core.Option.{Option as Maybe, none, some}
 use mathlib.Core.Path.{◌≡◌, refl, sym, ap, ◌∙◌, subst as along}
 use native.Mathlib.Decide.{dec_lt}
 use native.Mathlib.Omega.{arith}
 use lib.Dec.{eqb}
 use lib.ListN.{length, get_or, drop, set}
 use borrow.Author.Tests.{eq-eqb, ne_eqb}
+use Rattle.std.specs.Prelude.{Option, Some, None}
 use Rattle.calculus.specs.Options.{◌▸◌, test}
 use Rattle.calculus.specs.Expressions.{Leaf, number, variable, location, revision, leaf}
 use Rattle.calculus.specs.Tags.{Tag, constant_tag, leaf_tag, lambda_tag, one_tag, two_tag, if_tag, largest}
@@ -18,33 +19,32 @@ use Rattle.calculus.specs.Reading.{type_end, read_type, read_expression, tag_of,
 use Rattle.calculus.proofs.Options.{some_inj, ▸-some}
 use Rattle.calculus.proofs.Reading.{tag_word_tag_of}
 use Rattle.words.specs.declared.closed.Node.{Node}
-use Rattle.words.specs.declared.closed.Node.TheVariants.{Plain, Variable, Binder, Wrong}
-use Rattle.words.specs.declared.walk.Front.TheVariants.{Is, Wrong as WrongFront}
-use Rattle.words.specs.Rows.{tag_row, type_row_if, row_if, row_of}
-use Rattle.words.specs.Walks.{front_of}
+use Rattle.words.specs.declared.closed.Node.TheVariants.{Plain, Variable, Binder}
+use Rattle.words.specs.declared.table.Kind.TheVariants.{Expression as ExpressionKind}
+use Rattle.words.specs.Rows.{tag_row, type_tag_row, type_row_if, row_if, row_of}
+use Rattle.words.specs.Walks.{front, front_of, is_kind}
 use Rattle.words.specs.Scopes.{closed_under, closed_end, node_if, node_of, binder_if}
-use Rattle.words.proofs.Fronts.{front_out, front_other, front_bare, front_short, front_fine, front_over}
+use Rattle.words.proofs.Fronts.{front_out, front_untagged, front_other, front_bare, front_short, front_fine, front_over}
 use Rattle.words.proofs.ClosedReading.{read_past, read_node, own_over, own_past}
 use Rattle.words.proofs.ClosedNodes.{closed_ends, end_if, parts, end_one, end_two, end_if_lem, end_leaf, end_lambda}
 
 -- where the expression ends whose node is this one
-abbrev pub node_end : List ℕ → List Bool → Node → Option ℕ
-node_end s scope (Plain k next) = closed_ends s scope k next
-node_end s scope (Variable x next) = test (get_or scope x false) ▸ λ u. some next
-node_end s scope (Binder x body) = closed_end s (set scope x true) body
-node_end s scope Wrong = none
+abbrev pub node_end : List ℕ → List Bool → Option Node → Maybe ℕ
+node_end s scope (Some (Plain k next)) = closed_ends s scope k next
+node_end s scope (Some (Variable x next)) = test (get_or scope x false) ▸ λ u. some next
+node_end s scope (Some (Binder x body)) = closed_end s (set scope x true) body
+node_end s scope None = none
 
-binder_end : (s : List ℕ) (scope : List Bool) (x : ℕ) (m : Option ℕ)
+binder_end : (s : List ℕ) (scope : List Bool) (x : ℕ) (m : Maybe ℕ)
     → (m ▸ λ b. closed_end s (set scope x true) b) ≡ node_end s scope (binder_if x m)
 binder_end s scope x none = refl
 binder_end s scope x (some b) = refl
 
 -- a word that is no expression's tag
-no_kind : (o : Option TypeTag) → (type_row_if o).kind ≡ 1 → ⊥
-no_kind none e = omega arith
-no_kind (some (basic_tag b)) e = omega arith
-no_kind (some reference_tag) e = omega arith
-no_kind (some function_tag) e = omega arith
+no_kind : (t : TypeTag) → is_kind (type_tag_row t).kind ExpressionKind ≡ false
+no_kind (basic_tag b) = refl
+no_kind reference_tag = refl
+no_kind function_tag = refl
 
 abbrev is_variable : Tag → Bool
 is_variable (constant_tag c) = false
@@ -72,16 +72,21 @@ own s next b = go (dec_lt next (length s)) (dec_lt b (get_or s next 0))
     go (no h) d = past (omega arith)
 
 module _ (s : List ℕ) (at : ℕ) (h : at < length s) where
-  no_tag : tag_of (get_or s at 0) ≡ none → front_of s 1 at ≡ WrongFront
+  no_tag : tag_of (get_or s at 0) ≡ none → front_of s ExpressionKind at ≡ None
   unfolding row_of
-  no_tag e =
-      sym
-      (front_other s 1 at (type_row_if (type_tag_of (get_or s at 0))) h
-      (sym (ap (λ o. row_if o (type_row_if (type_tag_of (get_or s at 0)))) e))
-      (no_kind (type_tag_of (get_or s at 0))))
+  no_tag e = go (type_tag_of (get_or s at 0)) refl
+    where
+      is : (u : Maybe TypeTag) → type_tag_of (get_or s at 0) ≡ u → type_row_if u ≡ row_of (get_or s at 0)
+      is u f = sym (ap (λ o. row_if o (type_row_if (type_tag_of (get_or s at 0)))) e ∙ ap type_row_if f)
+
+      go : (u : Maybe TypeTag) → type_tag_of (get_or s at 0) ≡ u → front_of s ExpressionKind at ≡ None
+      go none f = sym (front_untagged s ExpressionKind at h (get_or s at 0) refl (is none f))
+      go (some t) f =
+          sym
+          (front_other s ExpressionKind at h (get_or s at 0) refl (type_tag_row t) (is (some t) f) (no_kind t))
 
   module _ (t : Tag) (e : tag_of (get_or s at 0) ≡ some t) where
-    row_is : tag_row t ≡ row_of (get_or s at 0)
+    row_is : Some (tag_row t) ≡ row_of (get_or s at 0)
     unfolding row_of
     row_is = sym (ap (λ o. row_if o (type_row_if (type_tag_of (get_or s at 0)))) e)
 
@@ -92,11 +97,11 @@ module _ (s : List ℕ) (at : ℕ) (h : at < length s) where
         let z : ◌≡◌ {A = ℕ} 0 1 = cc in
         omega arith
 
-    plain : is_variable t ≡ false → (tag_row t).kind ≡ 1 → (tag_row t).limit ≡ 0 → (tag_row t).types ≡ 0
-        → node_of s at ≡ Plain (tag_row t).children (at + 1)
+    plain : is_variable t ≡ false → is_kind (tag_row t).kind ExpressionKind ≡ true → (tag_row t).limit ≡ None
+        → (tag_row t).types ≡ 0 → node_of s at ≡ Some (Plain (tag_row t).children (at + 1))
     unfolding node_of
     plain d k l z =
-        ap (node_if s at) (sym (front_bare s 1 at (tag_row t) h row_is k l))
+        ap (node_if s at) (sym (front_bare s ExpressionKind at h (get_or s at 0) refl (tag_row t) row_is k l))
         ∙ rw (eq-eqb (tag_row t).types 0 z, not_variable d) refl
 
     end_tag : (scope : List Bool) → closed_end s scope at ≡ (parts s scope at t ▸ end_if scope at)
@@ -104,30 +109,38 @@ module _ (s : List ℕ) (at : ℕ) (h : at < length s) where
     end_tag scope = rw (read_node s at h, e) refl
 
     -- the own word is below the limit, or the node is none
-    front_own : (b : ℕ) → (tag_row t).kind ≡ 1 → (tag_row t).limit ≡ suc b → at + 1 < length s → get_or s (at + 1) 0 ≤ b
-        → front_of s 1 at ≡ Is (tag_row t) (at + 1 + 1)
+    front_own : (b : ℕ) → is_kind (tag_row t).kind ExpressionKind ≡ true → (tag_row t).limit ≡ Some (suc b)
+        → at + 1 < length s → get_or s (at + 1) 0 ≤ b
+        → front_of s ExpressionKind at ≡ Some (front (tag_row t) (at + 1 + 1))
     front_own b k l i o =
-        sym (front_fine s 1 at (tag_row t) h row_is k (λ z. omega arith) i (omega arith))
+        sym
+        (front_fine s ExpressionKind at h (get_or s at 0) refl (tag_row t) row_is k (suc b) l i (get_or s (at + 1) 0) refl
+        (omega arith))
 
-    wrong_over : (b : ℕ) → (tag_row t).kind ≡ 1 → (tag_row t).limit ≡ suc b → at + 1 < length s → b < get_or s (at + 1) 0
-        → node_of s at ≡ Wrong
+    wrong_over : (b : ℕ) → is_kind (tag_row t).kind ExpressionKind ≡ true → (tag_row t).limit ≡ Some (suc b)
+        → at + 1 < length s → b < get_or s (at + 1) 0 → node_of s at ≡ None
     unfolding node_of
     wrong_over b k l i o =
-        ap (node_if s at) (sym (front_over s 1 at (tag_row t) h row_is k (λ z. omega arith) i (omega arith)))
+        ap (node_if s at)
+        (sym
+        (front_over s ExpressionKind at h (get_or s at 0) refl (tag_row t) row_is k (suc b) l i (get_or s (at + 1) 0) refl
+        (omega arith)))
 
-    wrong_past : (b : ℕ) → (tag_row t).kind ≡ 1 → (tag_row t).limit ≡ suc b → length s ≤ at + 1 → node_of s at ≡ Wrong
+    wrong_past : (b : ℕ) → is_kind (tag_row t).kind ExpressionKind ≡ true → (tag_row t).limit ≡ Some (suc b)
+        → length s ≤ at + 1 → node_of s at ≡ None
     unfolding node_of
-    wrong_past b k l i = ap (node_if s at) (sym (front_short s 1 at (tag_row t) h row_is k (λ z. omega arith) i))
+    wrong_past b k l i =
+        ap (node_if s at) (sym (front_short s ExpressionKind at h (get_or s at 0) refl (tag_row t) row_is k (suc b) l i))
 
   -- a leaf
   plain_leaf : (k : Leaf) → tag_of (get_or s at 0) ≡ some (leaf_tag k) → is_variable (leaf_tag k) ≡ false
-      → at + 1 < length s → get_or s (at + 1) 0 ≤ largest k → node_of s at ≡ Plain 0 (at + 1 + 1)
+      → at + 1 < length s → get_or s (at + 1) 0 ≤ largest k → node_of s at ≡ Some (Plain 0 (at + 1 + 1))
   unfolding node_of
   plain_leaf k e d i o =
       ap (node_if s at) (front_own (leaf_tag k) e (largest k) refl refl i o) ∙ rw (not_variable (leaf_tag k) e d) refl
 
   variable_leaf : tag_of (get_or s at 0) ≡ some (leaf_tag variable) → at + 1 < length s → get_or s (at + 1) 0 ≤ 255
-      → node_of s at ≡ Variable (get_or s (at + 1) 0) (at + 1 + 1)
+      → node_of s at ≡ Some (Variable (get_or s (at + 1) 0) (at + 1 + 1))
   unfolding node_of
   variable_leaf e i o =
       ap (node_if s at) (front_own (leaf_tag variable) e 255 refl refl i o)
@@ -203,14 +216,14 @@ module _ (s : List ℕ) (at : ℕ) (h : at < length s) where
     inside : closed_end s scope at ≡ node_end s scope (node_of s at)
     inside = go (tag_of (get_or s at 0)) refl
       where
-        go : (o : Option Tag) → tag_of (get_or s at 0) ≡ o → closed_end s scope at ≡ node_end s scope (node_of s at)
+        go : (o : Maybe Tag) → tag_of (get_or s at 0) ≡ o → closed_end s scope at ≡ node_end s scope (node_of s at)
         go none e = untagged e
         go (some t) e = tag_end t e
 
 outside : (s : List ℕ) (scope : List Bool) (at : ℕ) → length s ≤ at
     → closed_end s scope at ≡ node_end s scope (node_of s at)
 unfolding closed_end node_of
-outside s scope at h = rw (read_past s at h, ← front_out s 1 at h) refl
+outside s scope at h = rw (read_past s at h, ← front_out s ExpressionKind at h) refl
 
 pub node_end_lem : (s : List ℕ) (scope : List Bool) (at : ℕ) → closed_end s scope at ≡ node_end s scope (node_of s at)
 node_end_lem s scope at = go (dec_lt at (length s))
@@ -230,11 +243,11 @@ pub record NameAt (s : List ℕ) (at x next : ℕ) : Type 0 where
   pub low : at + 1 ≤ next
   pub small : x < 256
 
-abbrev Seen : List ℕ → ℕ → Node → Type 0
-Seen s at (Plain k next) = PlainAt s at k next
-Seen s at (Variable x next) = NameAt s at x next
-Seen s at (Binder x body) = NameAt s at x body
-Seen s at Wrong = Unit {0}
+abbrev Seen : List ℕ → ℕ → Option Node → Type 0
+Seen s at (Some (Plain k next)) = PlainAt s at k next
+Seen s at (Some (Variable x next)) = NameAt s at x next
+Seen s at (Some (Binder x body)) = NameAt s at x body
+Seen s at None = Unit {0}
 
 type_low : (s : List ℕ) (at e : ℕ) → type_end s at ≡ some e → at ≤ e
 unfolding type_end
@@ -252,8 +265,8 @@ closed_low s scope at e q =
     omega arith
 
 module _ (s : List ℕ) (at : ℕ) (h : at < length s) where
-  seen_bare : (t : Tag) → tag_of (get_or s at 0) ≡ some t → is_variable t ≡ false → (tag_row t).kind ≡ 1
-      → (tag_row t).limit ≡ 0 → (tag_row t).types ≡ 0 → (tag_row t).children ≤ 3 → Seen s at (node_of s at)
+  seen_bare : (t : Tag) → tag_of (get_or s at 0) ≡ some t → is_variable t ≡ false
+      → is_kind (tag_row t).kind ExpressionKind ≡ true → (tag_row t).limit ≡ None → (tag_row t).types ≡ 0 → (tag_row t).children ≤ 3 → Seen s at (node_of s at)
   seen_bare t e d k l z c =
       rw (plain s at h t e d k l z) (record { within = h; low = omega arith; few = c })
 
@@ -275,7 +288,7 @@ module _ (s : List ℕ) (at : ℕ) (h : at < length s) where
   seen_lambda : tag_of (get_or s at 0) ≡ some lambda_tag → Seen s at (node_of s at)
   seen_lambda e = go (own s (at + 1) 255)
     where
-      typed : (m : Option ℕ) → type_end s (at + 1 + 1) ≡ m → get_or s (at + 1) 0 ≤ 255
+      typed : (m : Maybe ℕ) → type_end s (at + 1 + 1) ≡ m → get_or s (at + 1) 0 ≤ 255
           → Seen s at (binder_if (get_or s (at + 1) 0) m)
       typed none q o = tt
       typed (some b) q o =
@@ -306,7 +319,7 @@ module _ (s : List ℕ) (at : ℕ) (h : at < length s) where
   unfolding node_of
   seen_inside = go (tag_of (get_or s at 0)) refl
     where
-      go : (o : Option Tag) → tag_of (get_or s at 0) ≡ o → Seen s at (node_of s at)
+      go : (o : Maybe Tag) → tag_of (get_or s at 0) ≡ o → Seen s at (node_of s at)
       go none e = rw (no_tag s at h e) tt
       go (some t) e = seen_tag t e
 
@@ -316,14 +329,14 @@ seen s at = go (dec_lt at (length s))
   where
     go : Dec (at < length s) → Seen s at (node_of s at)
     go (yes h) = seen_inside s at h
-    go (no h) = rw (sym (front_out s 1 at (omega arith))) tt
+    go (no h) = rw (sym (front_out s ExpressionKind at (omega arith))) tt
 
-module _ (s : List ℕ) (at : ℕ) (v : Node) (q : v ≡ node_of s at) where
+module _ (s : List ℕ) (at : ℕ) (v : Node) (q : Some v ≡ node_of s at) where
   pub plain_at : (k next : ℕ) → v ≡ Plain k next → PlainAt s at k next
-  plain_at k next e = along (Seen s at) (sym q ∙ e) (seen s at)
+  plain_at k next e = along (Seen s at) (sym q ∙ ap Some e) (seen s at)
 
   pub variable_at : (x next : ℕ) → v ≡ Variable x next → NameAt s at x next
-  variable_at x next e = along (Seen s at) (sym q ∙ e) (seen s at)
+  variable_at x next e = along (Seen s at) (sym q ∙ ap Some e) (seen s at)
 
   pub binder_at : (x body : ℕ) → v ≡ Binder x body → NameAt s at x body
-  binder_at x body e = along (Seen s at) (sym q ∙ e) (seen s at)
+  binder_at x body e = along (Seen s at) (sym q ∙ ap Some e) (seen s at)

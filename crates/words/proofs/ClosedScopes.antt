@@ -2,7 +2,7 @@
 use Prim.Native.Nat.{ℕ, ◌+◌, ◌≤◌}
 use mathlib.Core.Bool.{Bool, true, false, ◌&&◌, ◌||◌}
 use mathlib.Core.List.{List, [], ◌∷◌}
-use mathlib.Core.Option.{Option, none, some}
+use mathlib.Core.Option.{Option as Maybe, none, some}
 use mathlib.Core.Path.{◌≡◌, refl, sym, ap, ap₂, ◌∙◌}
 use native.Mathlib.Decide.{ℕ_discrete}
 use native.Mathlib.Omega.{arith}
@@ -10,6 +10,7 @@ use lib.Dec.{eqb}
 use lib.ListN.{length, get_or, set, drop, replicate, length-set, length-replicate, get_or-replicate}
 use lib.Seq.{get_or-set_same, get_or-set_other, set-get_or}
 use borrow.Author.Tests.{eq-eqb, ne_eqb}
+use Rattle.std.specs.Prelude.{Option}
 use Rattle.calculus.specs.Options.{◌▸◌, test}
 use Rattle.calculus.specs.Expressions.{number, variable, location, revision}
 use Rattle.calculus.specs.Expressions.{Expression, constant, leaf, lambda, one, two, if}
@@ -17,7 +18,6 @@ use Rattle.calculus.specs.Words.{words}
 use Rattle.calculus.specs.Formed.{Formed, member, closed_in, closed}
 use Rattle.calculus.specs.Reading.{read_expression}
 use Rattle.calculus.proofs.Reading.{words_read}
-use Rattle.words.specs.declared.walk.Walk.{Walk}
 use Rattle.words.specs.Walks.{walk_of, closed_end_of}
 use Rattle.words.specs.Scopes.{closed_under, closed_end}
 
@@ -69,13 +69,13 @@ end_closed : (s : List ℕ) (at : ℕ) → closed_end s (replicate 256 false) at
 unfolding closed_end closed_end_of
 end_closed s at = go (read_expression (length s) (drop at s)) refl
   where
-    go : (m : Option (Expression × List ℕ)) → read_expression (length s) (drop at s) ≡ m
+    go : (m : Maybe (Expression × List ℕ)) → read_expression (length s) (drop at s) ≡ m
         → (m ▸ λ p. test (closed_under (replicate 256 false) p.0) ▸ λ u. some (at + length (words p.0)))
         ≡ (m ▸ λ p. test (closed p.0) ▸ λ u. some (at + length (words p.0)))
     go none e = refl
     go (some p) e =
         rw (under_in p.0 (replicate 256 false) [] (words_read (length s) (drop at s) p e).1 marks_none) refl
 
-pub whole : (s : List ℕ) (at : ℕ) (r : Walk) → r ≡ walk_of (closed_end s (replicate 256 false) at)
+pub whole : (s : List ℕ) (at : ℕ) (r : Option ℕ) → r ≡ walk_of (closed_end s (replicate 256 false) at)
     → r ≡ walk_of (closed_end_of s at)
 whole s at r e = e ∙ ap walk_of (end_closed s at)

@@ -1,98 +1,118 @@
 -- The front of a node: one law for each way through `front_at`, and what a right front says.
 use Prim.Native.Nat.{ℕ, ◌+◌, ◌<◌, ◌≤◌}
-use mathlib.Core.Bool.{Bool, true, false}
+use mathlib.Core.Bool.{Bool, true, false, not}
 use mathlib.Core.List.{List}
-use mathlib.Core.Path.{◌≡◌, refl, sym, ◌∙◌}
+use mathlib.Core.Path.{subst as along, ◌≡◌, refl, sym, ap, ◌∙◌}
 use native.Mathlib.Omega.{arith}
-use lib.Dec.{ltb, eqb}
+use denote.Enum.Bare.{sameb}
+use lib.Dec.{ltb}
 use lib.ListN.{length, get_or}
-use borrow.Author.Tests.{lt-ltb, le-ltb, eq-eqb, ne_eqb, ltb-true, eqb-true}
+use borrow.Author.Tests.{lt-ltb, le-ltb, ltb-true}
+use Rattle.std.specs.Prelude.{Option, Some, None}
 use Rattle.calculus.specs.Numbers.{choose}
+use Rattle.words.specs.contracts.table.Kind.{the_type}
+use Rattle.words.specs.declared.table.Kind.{Kind}
+use Rattle.words.specs.declared.table.Kind.TheVariants.{Expression, «Type» as TypeKind}
 use Rattle.words.specs.declared.table.Row.{Row}
 use Rattle.words.specs.declared.walk.Front.{Front}
-use Rattle.words.specs.declared.walk.Front.TheVariants.{Is, Wrong}
 use Rattle.words.specs.Rows.{row_of}
-use Rattle.words.specs.Walks.{front_of, own_front}
+use Rattle.words.specs.Walks.{front_of, front, own_front, row_front, is_kind}
 use Rattle.words.proofs.Rows.{Small, small}
 
-pub front_out : (s : List ℕ) (k at : ℕ) → length s ≤ at → Wrong ≡ front_of s k at
+-- the code's test whether two kinds differ
+pub kinds_differ : (a b : Kind) → true ≡ not (sameb the_type a b) → is_kind a b ≡ false
+kinds_differ Expression Expression e = let z : ◌≡◌ {A = ℕ} 0 1 = cc in absurd (omega arith)
+kinds_differ Expression TypeKind e = refl
+kinds_differ TypeKind Expression e = refl
+kinds_differ TypeKind TypeKind e = let z : ◌≡◌ {A = ℕ} 0 1 = cc in absurd (omega arith)
+
+pub kinds_agree : (a b : Kind) → false ≡ not (sameb the_type a b) → is_kind a b ≡ true
+kinds_agree Expression Expression e = refl
+kinds_agree Expression TypeKind e = let z : ◌≡◌ {A = ℕ} 0 1 = cc in absurd (omega arith)
+kinds_agree TypeKind Expression e = let z : ◌≡◌ {A = ℕ} 0 1 = cc in absurd (omega arith)
+kinds_agree TypeKind TypeKind e = refl
+
+pub front_out : (s : List ℕ) (k : Kind) (at : ℕ) → length s ≤ at → None ≡ front_of s k at
 unfolding front_of
 front_out s k at h = rw (le-ltb at (length s) h) refl
 
-module _ (s : List ℕ) (k at : ℕ) (n : Row) (h : at < length s) (e : n ≡ row_of (get_or s at 0)) where
-  pub front_other : (n.kind ≡ k → ⊥) → Wrong ≡ front_of s k at
+module _ (s : List ℕ) (k : Kind) (at : ℕ) (h : at < length s) (w : ℕ) (v : w ≡ get_or s at 0) where
+  pub front_untagged : None ≡ row_of w → None ≡ front_of s k at
   unfolding front_of
-  front_other d = rw (lt-ltb at (length s) h, ← e, ne_eqb n.kind k d) refl
+  front_untagged e = rw (lt-ltb at (length s) h, ← v, ← e) refl
 
-  by_own : n.kind ≡ k → front_of s k at ≡ own_front s n (at + 1)
-  unfolding front_of
-  by_own d = rw (lt-ltb at (length s) h, ← e, eq-eqb n.kind k d) refl
+  module _ (n : Row) (e : Some n ≡ row_of w) where
+    pub front_other : is_kind n.kind k ≡ false → None ≡ front_of s k at
+    unfolding front_of
+    front_other d = rw (lt-ltb at (length s) h, ← v, ← e, d) refl
 
-  pub front_bare : n.kind ≡ k → n.limit ≡ 0 → Is n (at + 1) ≡ front_of s k at
-  front_bare d z = rw (by_own d, eq-eqb n.limit 0 z) refl
+    module _ (d : is_kind n.kind k ≡ true) where
+      by_own : front_of s k at ≡ own_front s n n.limit (at + 1)
+      unfolding front_of
+      by_own = rw (lt-ltb at (length s) h, ← v, ← e, d) refl
 
-  pub front_short : n.kind ≡ k → (n.limit ≡ 0 → ⊥) → length s ≤ at + 1 → Wrong ≡ front_of s k at
-  front_short d z l = rw (by_own d, ne_eqb n.limit 0 z, le-ltb (at + 1) (length s) l) refl
+      pub front_bare : n.limit ≡ None → Some (front n (at + 1)) ≡ front_of s k at
+      front_bare z = sym (by_own ∙ ap (λ (o : Option ℕ). own_front s n o (at + 1)) z)
 
-  module _ (d : n.kind ≡ k) (z : n.limit ≡ 0 → ⊥) (l : at + 1 < length s) where
-    pub front_fine : get_or s (at + 1) 0 < n.limit → Is n (at + 1 + 1) ≡ front_of s k at
-    front_fine b =
-        rw (by_own d, ne_eqb n.limit 0 z, lt-ltb (at + 1) (length s) l, lt-ltb (get_or s (at + 1) 0) n.limit b) refl
+      module _ (b : ℕ) (z : n.limit ≡ Some b) where
+        limited : front_of s k at ≡ own_front s n (Some b) (at + 1)
+        limited = by_own ∙ ap (λ (o : Option ℕ). own_front s n o (at + 1)) z
 
-    pub front_over : n.limit ≤ get_or s (at + 1) 0 → Wrong ≡ front_of s k at
-    front_over b =
-        rw (by_own d, ne_eqb n.limit 0 z, lt-ltb (at + 1) (length s) l, le-ltb (get_or s (at + 1) 0) n.limit b) refl
+        pub front_short : length s ≤ at + 1 → None ≡ front_of s k at
+        front_short l = rw (limited, le-ltb (at + 1) (length s) l) refl
+
+        module _ (l : at + 1 < length s) (x : ℕ) (i : x ≡ get_or s (at + 1) 0) where
+          pub front_fine : x < b → Some (front n (at + 1 + 1)) ≡ front_of s k at
+          front_fine j = rw (limited, lt-ltb (at + 1) (length s) l, ← i, lt-ltb x b j) refl
+
+          pub front_over : b ≤ x → None ≡ front_of s k at
+          front_over j = rw (limited, lt-ltb (at + 1) (length s) l, ← i, le-ltb x b j) refl
 
 -- where a right front stands, and its row
-pub record Fronted (s : List ℕ) (k at : ℕ) (n : Row) (next : ℕ) : Type 0 where
+pub record Fronted (s : List ℕ) (k : Kind) (at : ℕ) (n : Row) (next : ℕ) : Type 0 where
   pub within : at < length s
   pub low : at + 1 ≤ next
   pub high : next ≤ length s
-  pub row : n ≡ row_of (get_or s at 0)
-  pub kind : n.kind ≡ k
+  pub row : Some n ≡ row_of (get_or s at 0)
+  pub kind : is_kind n.kind k ≡ true
   pub types : n.types ≤ 2
   pub children : n.children ≤ 3
 
-wrong≢is : {C : Type 0} (n : Row) (p : ℕ) → Wrong ≡ Is n p → C
-wrong≢is n p e = absurd (let z : ◌≡◌ {A = ℕ} 0 1 = cc in omega arith)
+none≢some : {A C : Type 0} (a : A) → None ≡ Some a → C
+none≢some a e = absurd (let z : ◌≡◌ {A = ℕ} 0 1 = cc in omega arith)
 
-pub front_within : (s : List ℕ) (k at : ℕ) (f : Front) (n : Row) (next : ℕ) → f ≡ front_of s k at → f ≡ Is n next
-    → Fronted s k at n next
+pub front_within : (s : List ℕ) (k : Kind) (at : ℕ) (g : Front) → Some g ≡ front_of s k at
+    → Fronted s k at g.row g.next
 unfolding front_of
-front_within s k at f n next q d = start (ltb at (length s)) (eqb m.kind k) refl refl (sym q ∙ d)
+front_within s k at g q = start (ltb at (length s)) (row_of (get_or s at 0)) refl refl (sym q)
   where
-    m : Row
-    m = row_of (get_or s at 0)
+    ends : at < length s → (m : Row) → row_of (get_or s at 0) ≡ Some m → is_kind m.kind k ≡ true → (p : ℕ)
+        → at + 1 ≤ p → p ≤ length s → Some (front m p) ≡ Some g → Fronted s k at g.row g.next
+    ends h m e i p low high t =
+        let same : front m p ≡ g = cc in
+        let c : Small m = small (get_or s at 0) m e in
+        along (λ (g : Front). Fronted s k at g.row g.next) same
+        (record { within = h; low = low; high = high; row = sym e; kind = i; types = c.types; children = c.children })
 
-    ends : at < length s → m.kind ≡ k → (p : ℕ) → at + 1 ≤ p → p ≤ length s → Is m p ≡ Is n next
-        → Fronted s k at n next
-    ends h i p low high t =
-        let row : n ≡ m = cc in
-        let same : p ≡ next = cc in
-        let g : Small n = rw row (small (get_or s at 0)) in
-        record {
-          within = h;
-          low = omega arith;
-          high = omega arith;
-          row = row;
-          kind = cc;
-          types = g.types;
-          children = g.children;
-        }
+    own : at < length s → (m : Row) → row_of (get_or s at 0) ≡ Some m → is_kind m.kind k ≡ true → (o : Option ℕ)
+        → own_front s m o (at + 1) ≡ Some g → Fronted s k at g.row g.next
+    own h m e i None t = ends h m e i (at + 1) (omega arith) (omega arith) t
+    own h m e i (Some b) t = below (ltb (at + 1) (length s)) (ltb (get_or s (at + 1) 0) b) refl t
+      where
+        below : (x y : Bool) → ltb (at + 1) (length s) ≡ x
+            → choose x (choose y (Some (front m (at + 1 + 1))) None) None ≡ Some g → Fronted s k at g.row g.next
+        below false y j t = none≢some g t
+        below true false j t = none≢some g t
+        below true true j t =
+            ends h m e i (at + 1 + 1) (omega arith) (omega (arith, ltb-true (at + 1) (length s) j)) t
 
-    own : at < length s → m.kind ≡ k → (a b c : Bool) → ltb (at + 1) (length s) ≡ b
-        → choose a (Is m (at + 1)) (choose b (choose c (Is m (at + 1 + 1)) Wrong) Wrong) ≡ Is n next
-        → Fronted s k at n next
-    own h i true b c e t = ends h i (at + 1) (omega arith) (omega arith) t
-    own h i false false c e t = wrong≢is n next t
-    own h i false true false e t = wrong≢is n next t
-    own h i false true true e t = ends h i (at + 1 + 1) (omega arith) (omega (arith, ltb-true (at + 1) (length s) e)) t
+    row : at < length s → (m : Row) → row_of (get_or s at 0) ≡ Some m → (b : Bool) → is_kind m.kind k ≡ b
+        → choose b (own_front s m m.limit (at + 1)) None ≡ Some g → Fronted s k at g.row g.next
+    row h m e false i t = none≢some g t
+    row h m e true i t = own h m e i m.limit t
 
-    start : (a b : Bool) → ltb at (length s) ≡ a → eqb m.kind k ≡ b
-        → choose a (choose b (own_front s m (at + 1)) Wrong) Wrong ≡ Is n next → Fronted s k at n next
-    start false b e i t = wrong≢is n next t
-    start true false e i t = wrong≢is n next t
-    start true true e i t =
-        own (ltb-true at (length s) e) (eqb-true m.kind k i)
-        (eqb m.limit 0) (ltb (at + 1) (length s)) (ltb (get_or s (at + 1) 0) m.limit)
-        refl t
+    start : (a : Bool) (o : Option Row) → ltb at (length s) ≡ a → row_of (get_or s at 0) ≡ o
+        → choose a (row_front s k o (at + 1)) None ≡ Some g → Fronted s k at g.row g.next
+    start false o i e t = none≢some g t
+    start true None i e t = none≢some g t
+    start true (Some m) i e t = row (ltb-true at (length s) i) m e (is_kind m.kind k) refl t

@@ -1,32 +1,33 @@
 -- The scan for a leaf, node by node, and what the scans for all leaves of a kind come to.
-use Prim.Native.Nat.{ℕ, ◌+◌, ◌<◌, ◌≤◌}
+use Prim.Native.Nat.{ℕ, suc, ◌+◌, ◌<◌, ◌≤◌}
 use mathlib.Core.Path.{subst as along, ◌≡◌, refl, sym, ap, ◌∙◌}
 use mathlib.Core.Bool.{Bool, true, false, ◌||◌}
 use mathlib.Core.List.{List, [], ◌∷◌, ◌++◌, append-nil}
-use native.Mathlib.Decide.{ℕ_discrete}
+use mathlib.Core.Option.{some}
 use native.Mathlib.Omega.{arith}
-use lib.ListN.{length, get_or, set, length-set}
-use lib.Seq.{set_out}
+use denote.Enum.Declared.{tag_of}
+use lib.ListN.{length, get_or, set}
+use Rattle.std.specs.Prelude.{Option, Some, None, is_some}
 use Rattle.calculus.specs.Expressions.{Leaf, number, variable, location, revision}
 use Rattle.calculus.specs.Expressions.{Expression, constant, leaf, lambda, one, two, if}
-use Rattle.calculus.specs.Tags.{leaf_tag, tag_word}
+use Rattle.calculus.specs.Tags.{leaf_tag, tag_word, largest}
 use Rattle.calculus.specs.Words.{words}
 use Rattle.calculus.specs.Formed.{Formed, holds_handle}
 use Rattle.calculus.specs.NewNumbers.{named}
+use Rattle.calculus.proofs.Options.{none≢some, some_inj}
 use Rattle.words.specs.declared.table.Row.{Row}
+use Rattle.words.specs.declared.table.Kind.TheVariants.{Expression as ExpressionKind}
 use Rattle.words.specs.declared.walk.Front.{Front}
-use Rattle.words.specs.declared.walk.Front.TheVariants.{Is, Wrong}
-use Rattle.words.specs.declared.walk.Walk.{Walk}
-use Rattle.words.specs.declared.walk.Walk.TheVariants.{Ends, Broken}
-use Rattle.words.specs.declared.names.Found.{Found}
-use Rattle.words.specs.declared.names.Found.TheVariants.{At, Nothing}
-use Rattle.words.specs.declared.names.InUse.{InUse}
+use Rattle.words.specs.contracts.names.Leaf.{the_type}
+use Rattle.words.specs.declared.names.Leaf.{Leaf as LeafKind}
+use Rattle.words.specs.declared.names.Leaf.TheVariants.{Number, Variable, Location, Revision}
 use Rattle.words.specs.Rows.{row_of, tag_row}
-use Rattle.words.specs.Walks.{walk_of, front_of, types_end}
-use Rattle.words.specs.Names.{all_words, AllFormed, all_named, TreesAt, FirstAt, First, Within, NextLeaf}
-use Rattle.words.specs.Names.{HandleTold, mark_all, Counted, Marked, RevisionsMarked, LocationsMarked}
+use Rattle.words.specs.Walks.{walk_of, front, front_of, types_end}
+use Rattle.words.specs.Names.{all_words, AllFormed, all_named, TreesAt, FirstAt, First, NextLeaf, HandleTold}
+use Rattle.words.specs.Names.{leaf_of}
+use Rattle.words.specs.Marks.{mark_all}
 use Rattle.words.proofs.Fronts.{Fronted, front_within}
-use Rattle.words.proofs.Children.{walk_ends, types_low, Deeper}
+use Rattle.words.proofs.Children.{walk_ends, walk_broken, types_low, Deeper}
 use Rattle.words.proofs.Standing.{row_of_tag, own_inside, node, no_node, leaf_node, below}
 use Rattle.words.proofs.Standing.{below_named, leaf_tagged, leaf_named}
 
@@ -36,64 +37,69 @@ pub record Left (s : List ℕ) (k : Leaf) (es : List Expression) (p : ℕ) : Typ
   pub stands : TreesAt s p after
   pub names : all_named k es ≡ all_named k after
 
--- no leaf with the tag stands between `at` and p
-pub record Passed (s : List ℕ) (at tag p : ℕ) : Type 0 where
+-- no leaf of the kind stands between `at` and p
+pub record Passed (s : List ℕ) (at : ℕ) (k : LeafKind) (p : ℕ) : Type 0 where
   pub low : at ≤ p
-  pub left : (k : Leaf) (es : List Expression) → tag ≡ tag_word (leaf_tag k) → TreesAt s at es → Left s k es p
+  pub left : (es : List Expression) → TreesAt s at es → Left s (leaf_of k) es p
 
-pub passed_none : (s : List ℕ) (at tag : ℕ) → Passed s at tag at
-passed_none s at tag =
-    record { low = omega arith; left = λ k es t h. record { after = es; stands = h; names = refl } }
+pub passed_none : (s : List ℕ) (at : ℕ) (k : LeafKind) → Passed s at k at
+passed_none s at k = record { low = omega arith; left = λ es h. record { after = es; stands = h; names = refl } }
 
-module _ (s : List ℕ) (at tag p : ℕ) (f : Front) (q : f ≡ front_of s 1 p) (passed : Passed s at tag p) where
+-- the tag of a leaf, as the code has it
+pub leaf_word : (k : LeafKind) → tag_of the_type k + 3 ≡ tag_word (leaf_tag (leaf_of k))
+leaf_word Number = refl
+leaf_word Variable = refl
+leaf_word Location = refl
+leaf_word Revision = refl
+
+-- the limit of a leaf's own word
+leaf_limit : (k : Leaf) (n : Row) (w : ℕ) → Some n ≡ row_of w → w ≡ tag_word (leaf_tag k)
+    → n.limit ≡ Some (suc (largest k))
+leaf_limit k n w r e =
+    let q : Some n ≡ Some (tag_row (leaf_tag k)) = r ∙ ap row_of e ∙ row_of_tag (leaf_tag k) in
+    let same : n ≡ tag_row (leaf_tag k) = cc in
+    ap (λ (m : Row). m.limit) same
+
+module _ (s : List ℕ) (at : ℕ) (kind : LeafKind) (p : ℕ) (passed : Passed s at kind p) where
+  abbrev k : Leaf
+  k = leaf_of kind
+
   -- the words end, or are broken
-  pub no_front : f ≡ Wrong → NextLeaf s at tag Nothing
+  pub no_front : None ≡ front_of s ExpressionKind p → NextLeaf s at kind None
   unfolding all_named
-  no_front d =
-      record { within = tt; first = λ k es t h. let l = passed.left k es t h in l.names ∙ go k _ l.stands }
+  no_front q =
+      record { within = tt; first = λ es h. let l = passed.left es h in l.names ∙ go l.after l.stands }
     where
-      go : (k : Leaf) (es : List Expression) → TreesAt s p es → all_named k es ≡ []
-      go k [] h = refl
-      go k (e ∷ es) h =
+      go : (es : List Expression) → TreesAt s p es → all_named k es ≡ []
+      go [] h = refl
+      go (e ∷ es) h =
           let n = node s p e es h in
-          let r : Wrong ≡ Is n.row n.next = sym d ∙ q ∙ n.front in
+          let r : None ≡ Some (front n.row n.next) = q ∙ n.front in
           absurd (let z : ◌≡◌ {A = ℕ} 0 1 = cc in omega arith)
 
-  module _ (row : Row) (next : ℕ) (d : f ≡ Is row next) where
+  module _ (f : Front) (q : Some f ≡ front_of s ExpressionKind p) where
+    -- a tree stands where a front does
+    no_tree : {C : Type 0} → TreesAt s p [] → C
+    no_tree st =
+        let r : None ≡ Some f = sym (no_node s p st) ∙ sym q in
+        absurd (let z : ◌≡◌ {A = ℕ} 0 1 = cc in omega arith)
+
     -- the leaf stands at p
-    pub leaf_here : 3 ≤ tag → tag ≤ 6 → get_or s p 0 ≡ tag → NextLeaf s at tag (At p)
-    leaf_here l h e =
+    pub leaf_here : get_or s p 0 ≡ tag_word (leaf_tag k) → NextLeaf s at kind (Some p)
+    leaf_here e =
         record {
-          within = (passed.low, own_inside s p f row next q d limited);
-          first = λ k es t st. go k t es (passed.left k es t st);
+          within = (passed.low, own_inside s p f (suc (largest k)) q limited);
+          first = λ es st. let l = passed.left es st in here es l.after l.names l.stands;
         }
       where
-        some_leaf : (t : ℕ) → 3 ≤ t → t ≤ 6 → (k : Leaf) × (tag_word (leaf_tag k) ≡ t)
-        some_leaf t l h = pick (ℕ_discrete t 3) (ℕ_discrete t 4) (ℕ_discrete t 5)
-          where
-            pick : Dec (t ≡ 3) → Dec (t ≡ 4) → Dec (t ≡ 5) → (k : Leaf) × (tag_word (leaf_tag k) ≡ t)
-            pick (yes a) b c = (number, sym a)
-            pick (no a) (yes b) c = (variable, sym b)
-            pick (no a) (no b) (yes c) = (location, sym c)
-            pick (no a) (no b) (no c) = (revision, omega arith)
+        limited : f.row.limit ≡ Some (suc (largest k))
+        limited = leaf_limit k f.row (get_or s p 0) (front_within s ExpressionKind p f q).row e
 
-        positive : (k : Leaf) → (tag_row (leaf_tag k)).limit ≡ 0 → ⊥
-        positive k z = omega arith
-
-        limited : row.limit ≡ 0 → ⊥
-        limited z =
-            let (k, b) = some_leaf tag l h in
-            let r = (front_within s 1 p f row next q d).row in
-            positive k (ap (λ (n : Row). n.limit) (sym (r ∙ ap row_of (e ∙ sym b) ∙ row_of_tag (leaf_tag k))) ∙ z)
-
-        here : (k : Leaf) → tag ≡ tag_word (leaf_tag k) → (before es : List Expression)
-            → all_named k before ≡ all_named k es
-            → TreesAt s p es → FirstAt s k before p
-        here k t before [] eq st =
-            let r : Wrong ≡ Is row next = sym (no_node s p st) ∙ sym q ∙ d in
-            absurd (let z : ◌≡◌ {A = ℕ} 0 1 = cc in omega arith)
-        here k t before (x ∷ es) eq st =
-            let (n, y) = leaf_tagged k x (sym (node s p x es st).tag ∙ e ∙ t) in
+        here : (before es : List Expression) → all_named k before ≡ all_named k es → TreesAt s p es
+            → FirstAt s k before p
+        here before [] eq st = no_tree st
+        here before (x ∷ es) eq st =
+            let (n, y) = leaf_tagged k x (sym (node s p x es st).tag ∙ e) in
             let st' : TreesAt s p (leaf k n ∷ es) = along (λ (x : Expression). TreesAt s p (x ∷ es)) y st in
             let same : all_named k before ≡ all_named k (leaf k n ∷ es)
             = eq ∙ ap (λ (x : Expression). all_named k (x ∷ es)) y in
@@ -101,61 +107,55 @@ module _ (s : List ℕ) (at tag p : ℕ) (f : Front) (q : f ≡ front_of s 1 p) 
             let (w, o) = leaf_node s p k n es st' in
             record { after = es; stands = o; names = eq' ∙ ap (λ (m : ℕ). m ∷ all_named k es) (sym w) }
 
-        go : (k : Leaf) → tag ≡ tag_word (leaf_tag k) → (es : List Expression) → Left s k es p → FirstAt s k es p
-        go k t es x = here k t es x.after x.names x.stands
+    -- a tree that stands at p is passed by its front and its types
+    seen : (e : Expression) (es : List Expression) (h : TreesAt s p (e ∷ es))
+        → types_end s f.row.types f.next ≡ some (node s p e es h).body
+    seen e es h =
+        let n = node s p e es h in
+        let r : Some f ≡ Some (front n.row n.next) = q ∙ n.front in
+        let x : f ≡ front n.row n.next = cc in
+        ap (λ (f : Front). types_end s f.row.types f.next) x ∙ n.types
 
-    module _ (w : Walk) (v : w ≡ walk_of (types_end s row.types next)) where
-      -- a tree that stands at p is passed by its front and its types
-      seen : (e : Expression) (es : List Expression) (h : TreesAt s p (e ∷ es)) → w ≡ Ends (node s p e es h).body
-      seen e es h =
-          let n = node s p e es h in
-          let r : Is row next ≡ Is n.row n.next = sym d ∙ q ∙ n.front in
-          let x : row ≡ n.row = cc in
-          let y : next ≡ n.next = cc in
-          v ∙ rw (x, y, n.types) refl
+    -- so its types are never broken
+    pub no_types : None ≡ walk_of (types_end s f.row.types f.next) → NextLeaf s at kind None
+    unfolding all_named
+    no_types b =
+        record { within = tt; first = λ es h. let l = passed.left es h in l.names ∙ go l.after l.stands }
+      where
+        go : (es : List Expression) → TreesAt s p es → all_named k es ≡ []
+        go [] h = refl
+        go (e ∷ es) h = none≢some (sym (walk_broken (types_end s f.row.types f.next) b) ∙ seen e es h)
 
-      -- so its types are never broken
-      pub no_types : w ≡ Broken → NextLeaf s at tag Nothing
-      unfolding all_named
-      no_types b =
-          record { within = tt; first = λ k es t h. let l = passed.left k es t h in l.names ∙ go k _ l.stands }
-        where
-          go : (k : Leaf) (es : List Expression) → TreesAt s p es → all_named k es ≡ []
-          go k [] h = refl
-          go k (e ∷ es) h =
-              let g = seen e es h in
-              absurd (let z : ◌≡◌ {A = ℕ} 0 1 = cc in omega arith)
+    module _ (body : ℕ) (b : Some body ≡ walk_of (types_end s f.row.types f.next)) where
+      ends : types_end s f.row.types f.next ≡ some body
+      ends = walk_ends (types_end s f.row.types f.next) body b
 
       -- the next node stands further on
-      pub body_on : (body : ℕ) → w ≡ Ends body → Deeper s p body
-      body_on body b =
-          let x : Fronted s 1 p row next = front_within s 1 p f row next q d in
-          let y = types_low s row.types next body (walk_ends (types_end s row.types next) w body v b) in
+      pub body_on : Deeper s p body
+      body_on =
+          let x : Fronted s ExpressionKind p f.row f.next = front_within s ExpressionKind p f q in
+          let y = types_low s f.row.types f.next body ends in
           record { within = x.within; low = omega arith }
 
       -- another node
-      pub leaf_passed : (body : ℕ) → w ≡ Ends body → (get_or s p 0 ≡ tag → ⊥) → Passed s at tag body
-      leaf_passed body b other =
-          let x = body_on body b in
+      pub leaf_passed : (get_or s p 0 ≡ tag_word (leaf_tag k) → ⊥) → Passed s at kind body
+      leaf_passed other =
+          let x = body_on in
           record {
             low = omega (arith, passed.low);
-            left = λ k es t h. let l = passed.left k es t h in go k t es l.after l.names l.stands;
+            left = λ es h. let l = passed.left es h in go es l.after l.names l.stands;
           }
         where
-          go : (k : Leaf) → tag ≡ tag_word (leaf_tag k) → (before es : List Expression)
-              → all_named k before ≡ all_named k es
-              → TreesAt s p es → Left s k before body
-          go k t before [] eq st =
-              let r : Wrong ≡ Is row next = sym (no_node s p st) ∙ sym q ∙ d in
-              absurd (let z : ◌≡◌ {A = ℕ} 0 1 = cc in omega arith)
-          go k t before (e ∷ es) eq st =
+          go : (before es : List Expression) → all_named k before ≡ all_named k es → TreesAt s p es
+              → Left s k before body
+          go before [] eq st = no_tree st
+          go before (e ∷ es) eq st =
               let n = node s p e es st in
-              let g = seen e es st in
-              let y : n.body ≡ body = cc in
+              let y : n.body ≡ body = some_inj (sym (seen e es st) ∙ ends) in
               record {
                 after = below e es;
                 stands = along (λ (j : ℕ). TreesAt s j (below e es)) y n.stands;
-                names = eq ∙ below_named k e es (λ z. other (n.tag ∙ z ∙ sym t));
+                names = eq ∙ below_named k e es (λ z. other (n.tag ∙ z));
               }
 
 -- where a leaf that was found stands
@@ -163,9 +163,8 @@ pub record Inside (s : List ℕ) (at q : ℕ) : Type 0 where
   pub low : at ≤ q
   pub high : q + 1 < length s
 
-pub found_inside : (s : List ℕ) (at tag : ℕ) (f : Found) (q : ℕ) → NextLeaf s at tag f → f ≡ At q → Inside s at q
-found_inside s at tag f q h e =
-    let w = along (λ (f : Found). Within s at f) e h.within in record { low = w.0; high = w.1 }
+pub found_inside : (s : List ℕ) (at : ℕ) (k : LeafKind) (q : ℕ) → NextLeaf s at k (Some q) → Inside s at q
+found_inside s at k q h = let w = h.within in record { low = w.0; high = w.1 }
 
 -- the words of one tree are that tree alone
 whole : (s : List ℕ) (e : Expression) → s ≡ words e → Formed e → TreesAt s 0 (e ∷ [])
@@ -175,13 +174,6 @@ whole s e w f = record { written = w ∙ sym (append-nil (words e)); formed = (f
 whole_named : (k : Leaf) (e : Expression) → all_named k (e ∷ []) ≡ named k e
 unfolding all_named
 whole_named k e = append-nil (named k e)
-
-module _ (s : List ℕ) (at tag : ℕ) (k : Leaf) (es : List Expression) (f : Found) (h : NextLeaf s at tag f) where
-  found_at : (q : ℕ) → f ≡ At q → tag ≡ tag_word (leaf_tag k) → TreesAt s at es → FirstAt s k es q
-  found_at q e t st = along (λ (f : Found). First s k es f) e (h.first k es t st)
-
-  found_none : f ≡ Nothing → tag ≡ tag_word (leaf_tag k) → TreesAt s at es → all_named k es ≡ []
-  found_none e t st = along (λ (f : Found). First s k es f) e (h.first k es t st)
 
 -- handles are the names of locations and of revisions
 abbrev pub filled : List ℕ → Bool
@@ -226,40 +218,30 @@ handle_named (if a b c) =
     (either (holds_handle b) (holds_handle c) (named location b) (named revision b) (named location c) (named revision c)
     (handle_named b) (handle_named c))
 
-module _ (s : List ℕ) (f : Found) (h : NextLeaf s 0 5 f) where
-  pub handle_location : (q : ℕ) → f ≡ At q → HandleTold s true
-  handle_location q d = record { told = λ e w o. go e (found_at s 0 5 location (e ∷ []) f h q d refl (whole s e w o)) }
+module _ (s : List ℕ) where
+  -- a location is found
+  pub handle_first : (f : Option ℕ) → NextLeaf s 0 Location f → true ≡ is_some f → (b : Bool) → b ≡ true → HandleTold s b
+  handle_first None h y b i = absurd (let z : ◌≡◌ {A = ℕ} 0 1 = cc in omega arith)
+  handle_first (Some q) h y b i = record { told = λ e w o. i ∙ go e (h.first (e ∷ []) (whole s e w o)) }
     where
       go : (e : Expression) → FirstAt s location (e ∷ []) q → true ≡ holds_handle e
       go e x = sym (handle_named e ∙ rw (sym (whole_named location e) ∙ x.names) refl)
 
-  module _ (d : f ≡ Nothing) (g : Found) (i : NextLeaf s 0 6 g) where
-    pub handle_revision : (q : ℕ) → g ≡ At q → HandleTold s true
-    handle_revision q b =
-        record {
-          told = λ e w o.
-              go e
-              (found_none s 0 5 location (e ∷ []) f h d refl (whole s e w o))
-              (found_at s 0 6 revision (e ∷ []) g i q b refl (whole s e w o));
-        }
-      where
-        go : (e : Expression) → all_named location (e ∷ []) ≡ [] → FirstAt s revision (e ∷ []) q → true ≡ holds_handle e
-        go e n x =
-            sym (handle_named e ∙ rw (sym (whole_named location e) ∙ n, sym (whole_named revision e) ∙ x.names) refl)
-
-    pub handle_none : g ≡ Nothing → HandleTold s false
-    handle_none b =
-        record {
-          told = λ e w o.
-              go e
-              (found_none s 0 5 location (e ∷ []) f h d refl (whole s e w o))
-              (found_none s 0 6 revision (e ∷ []) g i b refl (whole s e w o));
-        }
-      where
-        go : (e : Expression) → all_named location (e ∷ []) ≡ [] → all_named revision (e ∷ []) ≡ []
-            → false ≡ holds_handle e
-        go e n x =
-            sym (handle_named e ∙ rw (sym (whole_named location e) ∙ n, sym (whole_named revision e) ∙ x) refl)
+  -- none is, and a revision is found, or none
+  pub handle_second : (f g : Option ℕ) → NextLeaf s 0 Location f → false ≡ is_some f → NextLeaf s 0 Revision g
+      → (b : Bool) → b ≡ is_some g → HandleTold s b
+  handle_second (Some q) g h n i b j = absurd (let z : ◌≡◌ {A = ℕ} 0 1 = cc in omega arith)
+  handle_second None g h n i b j =
+      record {
+        told = λ e w o. j ∙ go e g (h.first (e ∷ []) (whole s e w o)) (i.first (e ∷ []) (whole s e w o));
+      }
+    where
+      go : (e : Expression) (g : Option ℕ) → all_named location (e ∷ []) ≡ [] → First s revision (e ∷ []) g
+          → is_some g ≡ holds_handle e
+      go e (Some q) n x =
+          sym (handle_named e ∙ rw (sym (whole_named location e) ∙ n, sym (whole_named revision e) ∙ x.names) refl)
+      go e None n x =
+          sym (handle_named e ∙ rw (sym (whole_named location e) ∙ n, sym (whole_named revision e) ∙ x) refl)
 
 -- of the one tree that the words are: what is left at p is still to be marked
 pub record ToMark (s : List ℕ) (k : Leaf) (e : Expression) (m₀ m : List Bool) (p : ℕ) : Type 0 where
@@ -281,76 +263,27 @@ marking_none s k m =
           };
     }
 
-module _ (s : List ℕ) (k : Leaf) (m₀ m : List Bool) (p tag : ℕ) (f : Found) (t : tag ≡ tag_word (leaf_tag k))
-    (marking : Marking s k m₀ m p) (h : NextLeaf s p tag f) where
-  marked_all : f ≡ Nothing → (e : Expression) → s ≡ words e → Formed e → m ≡ mark_all (named k e) m₀
+module _ (s : List ℕ) (k : LeafKind) (m₀ m : List Bool) (p : ℕ) (marking : Marking s (leaf_of k) m₀ m p) where
+  pub marked_all : NextLeaf s p k None → (e : Expression) → s ≡ words e → Formed e → m ≡ mark_all (named (leaf_of k) e) m₀
   unfolding mark_all
-  marked_all d e w o =
+  marked_all h e w o =
       let l = marking.left e w o in
-      sym (l.marks ∙ ap (λ (ns : List ℕ). mark_all ns m) (found_none s p tag k l.after f h d t l.stands))
+      sym (l.marks ∙ ap (λ (ns : List ℕ). mark_all ns m) (h.first l.after l.stands))
 
-  marking_on : (q : ℕ) → f ≡ At q → Marking s k m₀ (set m (get_or s (q + 1) 0) true) (q + 2)
+  pub marking_on : (q : ℕ) → NextLeaf s p k (Some q) → (n : List Bool) → n ≡ set m (get_or s (q + 1) 0) true
+      → Marking s (leaf_of k) m₀ n (q + 2)
   unfolding mark_all
-  marking_on q d =
+  marking_on q h n i =
       record {
         left = λ e w o.
             let l = marking.left e w o in
-            let x = found_at s p tag k l.after f h q d t l.stands in
+            let x = h.first l.after l.stands in
             record {
               after = x.after;
               stands = x.stands;
-              marks = l.marks ∙ ap (λ (ns : List ℕ). mark_all ns m) x.names;
+              marks =
+                  l.marks
+                  ∙ ap (λ (ns : List ℕ). mark_all ns m) x.names
+                  ∙ ap (λ (n : List Bool). mark_all (all_named (leaf_of k) x.after) n) (sym i);
             };
       }
-
--- the scan for revisions: the marks so far, and their count
-pub record RevisionScan (s : List ℕ) (u₀ u : InUse) (p : ℕ) : Type 0 where
-  pub marking : Marking s revision u₀.marks u.marks p
-  pub counted : Counted u
-
-pub revisions_start : (s : List ℕ) (u : InUse) → Counted u → RevisionScan s u u 0
-revisions_start s u c = record { marking = marking_none s revision u.marks; counted = c }
-
-module _ (s : List ℕ) (u₀ u : InUse) (p : ℕ) (f : Found) (scan : RevisionScan s u₀ u p) (h : NextLeaf s p 6 f) where
-  pub revisions_end : f ≡ Nothing → RevisionsMarked s u₀ u
-  revisions_end d =
-      record {
-        marks = marked_all s revision u₀.marks u.marks p 6 f refl scan.marking h d;
-        counted = scan.counted;
-      }
-
-  pub revisions_on : (q : ℕ) (v : InUse) → f ≡ At q → Marked u (get_or s (q + 1) 0) v → RevisionScan s u₀ v (q + 2)
-  revisions_on q v d x =
-      record {
-        marking =
-            along (λ (m : List Bool). Marking s revision u₀.marks m (q + 2)) (sym x.marks)
-            (marking_on s revision u₀.marks u.marks p 6 f refl scan.marking h q d);
-        counted = x.counted;
-      }
-
--- the scan for locations: the marks so far, and that there are 256
-pub record LocationScan (s : List ℕ) (m₀ m : List Bool) (p : ℕ) : Type 0 where
-  pub marking : Marking s location m₀ m p
-  pub long : length m ≡ 256
-
-pub locations_start : (s : List ℕ) (m : List Bool) → length m ≡ 256 → LocationScan s m m 0
-locations_start s m l = record { marking = marking_none s location m; long = l }
-
-module _ (s : List ℕ) (m₀ m : List Bool) (p : ℕ) (f : Found) (scan : LocationScan s m₀ m p) (h : NextLeaf s p 5 f) where
-  pub locations_end : f ≡ Nothing → LocationsMarked s m₀ m
-  locations_end d = record { marks = marked_all s location m₀ m p 5 f refl scan.marking h d }
-
-  pub locations_on : (q : ℕ) (n : List Bool) → f ≡ At q → n ≡ set m (get_or s (q + 1) 0) true
-      → LocationScan s m₀ n (q + 2)
-  locations_on q n d e =
-      record {
-        marking =
-            along (λ (n : List Bool). Marking s location m₀ n (q + 2)) (sym e)
-            (marking_on s location m₀ m p 5 f refl scan.marking h q d);
-        long = ap length e ∙ length-set m (get_or s (q + 1) 0) true ∙ scan.long;
-      }
-
-  -- a number past the marks marks nothing
-  pub locations_past : (q : ℕ) (n : List Bool) → f ≡ At q → 256 ≤ get_or s (q + 1) 0 → n ≡ m → LocationScan s m₀ n (q + 2)
-  locations_past q n d o e =
-      locations_on q n d (e ∙ sym (set_out m (get_or s (q + 1) 0) true (omega (arith, scan.long))))

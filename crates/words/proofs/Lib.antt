@@ -16,3 +16,4 @@ pub mod SignedWords
 pub mod Marks
 pub mod Standing
 pub mod Leaves
+pub mod Scripted

@@ -4,7 +4,7 @@ use mathlib.Core.Path.{◌≡◌, refl, sym, ap, ◌∙◌}
 use mathlib.Core.Bool.{Bool, true, false, ◌||◌}
 use mathlib.Core.List.{List, [], ◌∷◌, ◌++◌}
 use native.Mathlib.Nat.{le_of_suc-le-suc, add-zero}
-use native.Mathlib.Decide.{ℕ_discrete}
+use native.Mathlib.Decide.{ℕ_discrete, dec_lt}
 use native.Mathlib.Omega.{arith}
 use lib.ListN.{length, get_or, set, length-set, replicate, get_or-replicate, length-replicate}
 use lib.Seq.{set_out, set-get_or, get_or-set_same, get_or-set_other, ext_get_or}
@@ -12,8 +12,7 @@ use lib.Dec.{eqb}
 use Rattle.calculus.specs.Formed.{member}
 use Rattle.calculus.specs.Answers.{tally, marks_of}
 use Rattle.calculus.proofs.Options.{eqb_same, eqb_other}
-use Rattle.words.specs.declared.names.InUse.{InUse}
-use Rattle.words.specs.Names.{mark_all, Counted, Clear, Marked}
+use Rattle.words.specs.Marks.{mark_all}
 
 -- the numbers of two lists, one after the other
 pub mark_all_append : (ns ks : List ℕ) (m : List Bool) → mark_all (ns ++ ks) m ≡ mark_all ks (mark_all ns m)
@@ -50,8 +49,8 @@ tally_few (true ∷ m) = omega (arith, tally_few m)
 tally_few (false ∷ m) = omega (arith, tally_few m)
 
 -- a count beside its marks is small
-pub count_few : (u : InUse) (n : ℕ) → length u.marks ≡ n → Counted u → u.count ≤ n
-count_few u n e c = omega (arith, tally_few u.marks, c.count)
+pub count_few : (m : List Bool) (c n : ℕ) → length m ≡ n → c ≡ tally m → c ≤ n
+count_few m c n e d = omega (arith, tally_few m)
 
 tally_more : (m : List Bool) (i : ℕ) → i < length m → get_or m i false ≡ false → tally (set m i true) ≡ tally m + 1
 unfolding tally
@@ -60,22 +59,17 @@ tally_more (true ∷ m) zero h e = let z : ◌≡◌ {A = ℕ} 0 1 = cc in absur
 tally_more (false ∷ m) zero h e = omega arith
 tally_more (b ∷ m) (suc i) h e = omega (arith, tally_more m i (le_of_suc-le-suc h) e)
 
--- the count of no marks
-pub clear_counted : (u : InUse) → Clear u → Counted u
-unfolding tally
-clear_counted u c = record { count = c.count ∙ sym (ap tally c.marks) }
+-- one more mark: past the marks or there already, and new
+pub mark_kept : (m : List Bool) (n : ℕ) → (n < length m → get_or m n false ≡ true) → m ≡ set m n true
+mark_kept m n h = go (dec_lt n (length m))
+  where
+    go : Dec (n < length m) → m ≡ set m n true
+    go (yes l) = sym (ap (λ (b : Bool). set m n b) (sym (h l)) ∙ set-get_or m n false)
+    go (no l) = sym (set_out m n true (omega arith))
 
--- one more mark: past the marks, there already, new
-pub mark_past : (u : InUse) (n : ℕ) → length u.marks ≡ 64 → Counted u → 64 ≤ n → Marked u n u
-mark_past u n l c h = record { marks = sym (set_out u.marks n true (omega arith)); counted = c }
-
-pub mark_again : (u : InUse) (n : ℕ) → Counted u → get_or u.marks n false ≡ true → Marked u n u
-mark_again u n c e =
-    record { marks = sym (ap (λ (b : Bool). set u.marks n b) (sym e) ∙ set-get_or u.marks n false); counted = c }
-
-pub mark_new : (u : InUse) (n : ℕ) → length u.marks ≡ 64 → Counted u → n < 64 → get_or u.marks n false ≡ false
-    → u.count + 1 ≡ tally (set u.marks n true)
-mark_new u n l c h e = omega (arith, tally_more u.marks n (omega arith) e, c.count)
+pub mark_new : (m : List Bool) (c n : ℕ) → c ≡ tally m → n < length m → get_or m n false ≡ false
+    → c + 1 ≡ tally (set m n true)
+mark_new m c n d h e = omega (arith, tally_more m n h e)
 
 -- marks from none are those of the numbers from 0 on
 pub marks_of_length : (n k : ℕ) (ns : List ℕ) → length (marks_of n k ns) ≡ n

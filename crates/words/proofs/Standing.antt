@@ -1,9 +1,10 @@
 -- Trees that stand in words: the front and the types of the first, and the trees that stand where its next node does.
-use Prim.Native.Nat.{ℕ, ◌+◌, ◌<◌}
+use Prim.Native.Nat.{ℕ, suc, ◌+◌, ◌<◌}
 use mathlib.Core.Path.{◌≡◌, refl, sym, ap, ◌∙◌}
 use mathlib.Core.Bool.{true, false}
 use mathlib.Core.List.{List, [], ◌∷◌, ◌++◌, append_assoc}
 use mathlib.Core.Option.{some}
+use Rattle.std.specs.Prelude.{Some, None}
 use native.Mathlib.Nat.{add-zero}
 use native.Mathlib.Decide.{dec_lt}
 use native.Mathlib.Omega.{arith}
@@ -12,7 +13,7 @@ use lib.Seq.{get_or-drop, drop-drop, drop_at}
 use Rattle.calculus.specs.Types.{ScriptType}
 use Rattle.calculus.specs.Expressions.{Leaf, number, variable, location, revision}
 use Rattle.calculus.specs.Expressions.{Expression, constant, leaf, lambda, one, two, if}
-use Rattle.calculus.specs.Tags.{Tag, constant_tag, leaf_tag, lambda_tag, one_tag, two_tag, if_tag, tag_word}
+use Rattle.calculus.specs.Tags.{Tag, constant_tag, leaf_tag, lambda_tag, one_tag, two_tag, if_tag, tag_word, largest}
 use Rattle.calculus.specs.Words.{words, type_words}
 use Rattle.calculus.specs.Formed.{Formed}
 use Rattle.calculus.specs.Reading.{tag_of, type_end}
@@ -21,10 +22,10 @@ use Rattle.calculus.specs.NewNumbers.{named}
 use Rattle.calculus.proofs.Options.{some_inj}
 use Rattle.calculus.proofs.Reading.{tag_of_tag_word, read_type_words}
 use Rattle.words.specs.declared.table.Row.{Row}
+use Rattle.words.specs.declared.table.Kind.TheVariants.{Expression as ExpressionKind}
 use Rattle.words.specs.declared.walk.Front.{Front}
-use Rattle.words.specs.declared.walk.Front.TheVariants.{Is, Wrong}
 use Rattle.words.specs.Rows.{row_of, tag_row}
-use Rattle.words.specs.Walks.{front_of, types_end}
+use Rattle.words.specs.Walks.{front as front_with, front_of, types_end, is_kind}
 use Rattle.words.specs.Names.{all_words, AllFormed, all_named, TreesAt}
 use Rattle.words.proofs.Fronts.{front_out, front_bare, front_short, front_fine, front_within}
 
@@ -44,11 +45,11 @@ word_at s p w ws e =
     }
 
 -- the row of a tag
-pub row_of_tag : (t : Tag) → row_of (tag_word t) ≡ tag_row t
+pub row_of_tag : (t : Tag) → row_of (tag_word t) ≡ Some (tag_row t)
 unfolding row_of
 row_of_tag t = rw (tag_of_tag_word t) refl
 
-tag_kind : (t : Tag) → (tag_row t).kind ≡ 1
+tag_kind : (t : Tag) → is_kind (tag_row t).kind ExpressionKind ≡ true
 tag_kind (constant_tag c) = refl
 tag_kind (leaf_tag k) = refl
 tag_kind lambda_tag = refl
@@ -57,35 +58,36 @@ tag_kind (two_tag o) = refl
 tag_kind if_tag = refl
 
 -- the front of a tag without and with an own word
-tagged : (s : List ℕ) (p : ℕ) (t : Tag) → get_or s p 0 ≡ tag_word t → tag_row t ≡ row_of (get_or s p 0)
+tagged : (s : List ℕ) (p : ℕ) (t : Tag) → get_or s p 0 ≡ tag_word t → Some (tag_row t) ≡ row_of (get_or s p 0)
 tagged s p t e = sym (ap row_of e ∙ row_of_tag t)
 
-bare_tag : (s : List ℕ) (p : ℕ) (t : Tag) (ws : List ℕ) → drop p s ≡ tag_word t ∷ ws → (tag_row t).limit ≡ 0
-    → front_of s 1 p ≡ Is (tag_row t) (p + 1)
+bare_tag : (s : List ℕ) (p : ℕ) (t : Tag) (ws : List ℕ) → drop p s ≡ tag_word t ∷ ws → (tag_row t).limit ≡ None
+    → front_of s ExpressionKind p ≡ Some (front_with (tag_row t) (p + 1))
 bare_tag s p t ws e l =
     let r = word_at s p (tag_word t) ws e in
-    sym (front_bare s 1 p (tag_row t) r.inside (tagged s p t r.word) (tag_kind t) l)
+    sym
+    (front_bare s ExpressionKind p r.inside (get_or s p 0) refl (tag_row t) (tagged s p t r.word) (tag_kind t) l)
 
-own_tag : (s : List ℕ) (p : ℕ) (t : Tag) (n : ℕ) (ws : List ℕ) → drop p s ≡ tag_word t ∷ n ∷ ws → n < (tag_row t).limit
-    → front_of s 1 p ≡ Is (tag_row t) (p + 1 + 1)
-own_tag s p t n ws e h =
+own_tag : (s : List ℕ) (p : ℕ) (t : Tag) (n b : ℕ) (ws : List ℕ) → drop p s ≡ tag_word t ∷ n ∷ ws
+    → (tag_row t).limit ≡ Some b → n < b → front_of s ExpressionKind p ≡ Some (front_with (tag_row t) (p + 1 + 1))
+own_tag s p t n b ws e l h =
     let r = word_at s p (tag_word t) (n ∷ ws) e in
     let q = word_at s (p + 1) n ws r.after in
     sym
-    (front_fine s 1 p (tag_row t) r.inside (tagged s p t r.word) (tag_kind t) (λ z. omega arith) q.inside
-    (omega (arith, q.word)))
+    (front_fine s ExpressionKind p r.inside (get_or s p 0) refl (tag_row t) (tagged s p t r.word) (tag_kind t) b l
+    q.inside n (sym q.word) h)
 
 -- an own word that a right front has is there
-pub own_inside : (s : List ℕ) (p : ℕ) (f : Front) (n : Row) (next : ℕ) → f ≡ front_of s 1 p → f ≡ Is n next
-    → (n.limit ≡ 0 → ⊥) → p + 1 < length s
-own_inside s p f n next q d z = go (dec_lt (p + 1) (length s))
+pub own_inside : (s : List ℕ) (p : ℕ) (f : Front) (b : ℕ) → Some f ≡ front_of s ExpressionKind p
+    → f.row.limit ≡ Some b → p + 1 < length s
+own_inside s p f b q z = go (dec_lt (p + 1) (length s))
   where
     go : Dec (p + 1 < length s) → p + 1 < length s
     go (yes h) = h
     go (no h) =
-        let g = front_within s 1 p f n next q d in
-        let short = front_short s 1 p n g.within g.row g.kind z (omega arith) in
-        let w : Wrong ≡ Is n next = short ∙ sym q ∙ d in
+        let g = front_within s ExpressionKind p f q in
+        let short = front_short s ExpressionKind p g.within (get_or s p 0) refl f.row g.row g.kind b z (omega arith) in
+        let w : None ≡ Some f = short ∙ sym q in
         absurd (let z : ◌≡◌ {A = ℕ} 0 1 = cc in omega arith)
 
 -- a type that stands in the words ends after its words
@@ -120,7 +122,7 @@ pub record Node (s : List ℕ) (p : ℕ) (e : Expression) (es : List Expression)
   pub row : Row
   pub next : ℕ
   pub body : ℕ
-  pub front : front_of s 1 p ≡ Is row next
+  pub front : front_of s ExpressionKind p ≡ Some (front_with row next)
   pub tag : get_or s p 0 ≡ tag_word (head_tag e)
   pub types : types_end s row.types next ≡ some body
   pub stands : TreesAt s body (below e es)
@@ -147,7 +149,7 @@ node s p (leaf k n) es h =
       row = tag_row t;
       next = p + 1 + 1;
       body = p + 1 + 1;
-      front = own_tag s p t n (all_words es) h.written (omega (arith, h.formed.0));
+      front = own_tag s p t n (suc (largest k)) (all_words es) h.written refl (omega (arith, h.formed.0));
       tag = r.word;
       types = refl;
       stands = record { written = q.after; formed = h.formed.1 };
@@ -163,7 +165,7 @@ node s p (lambda x A e) es h =
       row = tag_row lambda_tag;
       next = p + 1 + 1;
       body = p + 1 + 1 + length (type_words A);
-      front = own_tag s p lambda_tag x ws d (omega (arith, h.formed.0.0));
+      front = own_tag s p lambda_tag x 256 ws d refl (omega (arith, h.formed.0.0));
       tag = r.word;
       types = y.0;
       stands = record { written = y.1; formed = (h.formed.0.1, h.formed.1) };
@@ -215,12 +217,12 @@ node s p (if a b c) es h =
     }
 
 -- where no tree stands there is no front
-pub no_node : (s : List ℕ) (p : ℕ) → TreesAt s p [] → front_of s 1 p ≡ Wrong
+pub no_node : (s : List ℕ) (p : ℕ) → TreesAt s p [] → front_of s ExpressionKind p ≡ None
 unfolding all_words
 no_node s p h =
     let l = length-drop p s in
     let m = ap length h.written in
-    sym (front_out s 1 p (omega arith))
+    sym (front_out s ExpressionKind p (omega arith))
 
 -- a leaf's own word, and that the others stand after it
 pub leaf_node : (s : List ℕ) (p : ℕ) (k : Leaf) (n : ℕ) (es : List Expression) → TreesAt s p (leaf k n ∷ es)

@@ -1,6 +1,6 @@
 -- Closedness as one walk sees it: the variables in scope as marks, and what each node asks of them.
-use Rattle.std.specs.Prelude.{ℕ, ◌+◌, List, Bool, true, false, ◌&&◌, length, get_or, drop, set, eqb}
-use Rattle.std.proofs.Math.Option.{Option, none, some}
+use Rattle.std.specs.Prelude.{ℕ, ◌+◌, List, Bool, true, false, ◌&&◌, length, get_or, drop, set, eqb, Option, Some, None}
+use Rattle.std.proofs.Math.Option.{Option as Maybe, none, some}
 use Rattle.calculus.specs.Options.{◌▸◌, test}
 use Rattle.calculus.specs.Expressions.{number, variable, location, revision}
 use Rattle.calculus.specs.Expressions.{Expression, constant, leaf, lambda, one, two, if}
@@ -9,9 +9,9 @@ use Rattle.calculus.specs.Words.{words}
 use Rattle.calculus.specs.Reading.{type_end, read_expression}
 use Rattle.calculus.specs.Numbers.{choose}
 use Rattle.words.specs.declared.walk.Front.{Front}
-use Rattle.words.specs.declared.walk.Front.TheVariants.{Is, Wrong as WrongFront}
+use Rattle.words.specs.declared.table.Kind.TheVariants.{Expression as ExpressionKind}
 use Rattle.words.specs.declared.closed.Node.{Node}
-use Rattle.words.specs.declared.closed.Node.TheVariants.{Plain, Variable, Binder, Wrong}
+use Rattle.words.specs.declared.closed.Node.TheVariants.{Plain, Variable, Binder}
 use Rattle.words.specs.Walks.{front_of}
 
 -- no variable is free but those that are marked
@@ -27,25 +27,25 @@ closed_under scope (two o a b) = closed_under scope a && closed_under scope b
 closed_under scope (if a b c) = closed_under scope a && (closed_under scope b && closed_under scope c)
 
 -- where the expression at `at` ends, if one stands there and its free variables are marked
-unfoldable pub closed_end : List ℕ → List Bool → ℕ → Option ℕ
+unfoldable pub closed_end : List ℕ → List Bool → ℕ → Maybe ℕ
 closed_end s scope at =
     read_expression (length s) (drop at s)
     ▸ λ p. test (closed_under scope p.0) ▸ λ u. some (at + length (words p.0))
 
-abbrev pub binder_if : ℕ → Option ℕ → Node
-binder_if x none = Wrong
-binder_if x (some body) = Binder x body
+abbrev pub binder_if : ℕ → Maybe ℕ → Option Node
+binder_if x none = None
+binder_if x (some body) = Some (Binder x body)
 
 -- of a node at `at` whose front is right: a node with a type is the binder
-abbrev pub node_if : List ℕ → ℕ → Front → Node
-node_if s at WrongFront = Wrong
-node_if s at (Is n next) =
-    choose (eqb n.types 0)
+abbrev pub node_if : List ℕ → ℕ → Option Front → Option Node
+node_if s at None = None
+node_if s at (Some f) =
+    choose (eqb f.row.types 0)
     (choose (eqb (get_or s at 0) (tag_word (leaf_tag variable)))
-    (Variable (get_or s (at + 1) 0) next)
-    (Plain n.children next))
-    (binder_if (get_or s (at + 1) 0) (type_end s next))
+    (Some (Variable (get_or s (at + 1) 0) f.next))
+    (Some (Plain f.row.children f.next)))
+    (binder_if (get_or s (at + 1) 0) (type_end s f.next))
 
--- what the node at `at` asks of the variables in scope
-unfoldable pub node_of : List ℕ → ℕ → Node
-node_of s at = node_if s at (front_of s 1 at)
+-- what the node at `at` asks of the variables in scope, if a right one stands there
+unfoldable pub node_of : List ℕ → ℕ → Option Node
+node_of s at = node_if s at (front_of s ExpressionKind at)

@@ -1,46 +1,117 @@
-// The constant table of tags: what follows each, packed in a byte.
+// The constant table of tags: what follows each.
 ghost use Rattle.std.specs.Prelude.{◌≡◌};
 ghost use Rattle.words.specs.Rows.{row_of};
 
-// What follows a tag: the kind of node (1: expression, 2: type, 0: no tag), an own word below the limit
-// unless the limit is 0, then so many types, then so many expressions.
-#[derive(Drop)]
+#[derive(Clone, Copy, PartialEq, Eq, Debug)]
+pub enum Kind {
+    Expression,
+    Type,
+}
+
+// What follows a tag: an own word below the limit, if there is one, then so many types, then so many expressions.
+#[derive(Clone, Copy, Debug)]
 pub struct Row {
-    pub kind: u8,
-    pub limit: u32,
+    pub kind: Kind,
+    pub limit: Option<u32>,
     pub types: usize,
     pub children: usize,
 }
 
-// kind · 64 + own word · 16 + types · 4 + expressions
-// the own word is 0: none, 1: below 65536, 2: below 256, 3: below 64
-const PACKED: [u8; 38] = [
-    64, 64, 64, 80, 96, 96, 112, 101, 66, 67, 65, 65, 66, 65, 65, 66, 66, 66, 0, 0, 0, 0, 0, 0, 0,
-    0, 0, 0, 0, 0, 0, 0, 128, 128, 128, 128, 132, 136,
+const CONSTANT: Row = Row {
+    kind: Kind::Expression,
+    limit: None,
+    types: 0,
+    children: 0,
+};
+
+const NUMBER: Row = Row {
+    kind: Kind::Expression,
+    limit: Some(65536),
+    types: 0,
+    children: 0,
+};
+
+// A variable or a location.
+const NAME: Row = Row {
+    kind: Kind::Expression,
+    limit: Some(256),
+    types: 0,
+    children: 0,
+};
+
+const REVISION: Row = Row {
+    kind: Kind::Expression,
+    limit: Some(64),
+    types: 0,
+    children: 0,
+};
+
+const LAMBDA: Row = Row {
+    kind: Kind::Expression,
+    limit: Some(256),
+    types: 1,
+    children: 1,
+};
+
+const ONE: Row = Row {
+    kind: Kind::Expression,
+    limit: None,
+    types: 0,
+    children: 1,
+};
+
+const TWO: Row = Row {
+    kind: Kind::Expression,
+    limit: None,
+    types: 0,
+    children: 2,
+};
+
+const IF: Row = Row {
+    kind: Kind::Expression,
+    limit: None,
+    types: 0,
+    children: 3,
+};
+
+// The tags from 0, as `Tag` has them.
+static EXPRESSIONS: [Row; 18] = [
+    CONSTANT, CONSTANT, CONSTANT, NUMBER, NAME, NAME, REVISION, LAMBDA, TWO, IF, ONE, ONE, TWO,
+    ONE, ONE, TWO, TWO, TWO,
 ];
 
-const LIMITS: [u32; 4] = [0, 65536, 256, 64];
+const BASIC: Row = Row {
+    kind: Kind::Type,
+    limit: None,
+    types: 0,
+    children: 0,
+};
 
-// The row of a word, and the empty row of a word that is no tag.
-pub fn row_at(tag: u16) -> Row
+const REFERENCE: Row = Row {
+    kind: Kind::Type,
+    limit: None,
+    types: 1,
+    children: 0,
+};
+
+const FUNCTION: Row = Row {
+    kind: Kind::Type,
+    limit: None,
+    types: 2,
+    children: 0,
+};
+
+// The tags from 32, as `TypeTag` has them.
+static TYPES: [Row; 6] = [BASIC, BASIC, BASIC, BASIC, REFERENCE, FUNCTION];
+
+// The row of a word, if it is a tag.
+pub fn row_at(tag: u16) -> Option<Row>
     ensures { result ≡ row_of tag }
 {
     let i = tag as usize;
-    if i < 38 {
-        let packed = PACKED[i];
-        let own = (packed / 16 % 4) as usize;
-        Row {
-            kind: packed / 64,
-            limit: LIMITS[own],
-            types: (packed / 4 % 4) as usize,
-            children: (packed % 4) as usize,
-        }
-    } else {
-        Row {
-            kind: 0,
-            limit: 0,
-            types: 0,
-            children: 0,
-        }
+    match i {
+        0..18 => Some(EXPRESSIONS[i]),
+        32..38 => Some(TYPES[i - 32]),
+        _ => None,
     }
 }

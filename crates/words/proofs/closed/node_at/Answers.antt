@@ -1,25 +1,27 @@
 -- `closed::node_at` meets its contract: one law for each way through it.
 use Rattle.std.proofs.Common.{arith}
+use mathlib.Core.Path.{◌∙◌}
 use Rattle.words.proofs.Fronts.{front_within}
 use Rattle.words.proofs.ClosedLook.{look_wrong, look_variable, look_plain, look_broken, look_binder}
 use Rattle.words.proofs.closed.node_at.Goals as goal
 
-pub returns-in_default : goal.returns-in_default
-returns-in_default c = search look_wrong
+pub returns-in_err-front : goal.returns-in_err-front
+returns-in_err-front c = c.from_residual.ensures ∙ search (look_wrong, c.in_err-front.ensures)
 
-pub returns-in_default-type_end : goal.returns-in_default-type_end
-returns-in_default-type_end c = search look_broken
-
-pub overflow_add-at-else-row-eq0 : goal.overflow_add-at-else-row-eq0
-overflow_add-at-else-row-eq0 c =
-    let f = front_within _ _ _ _ _ _ c.front_at.ensures c.in-Is.is in
+pub overflow_add-at : goal.overflow_add-at
+overflow_add-at c =
+    let f = front_within _ _ _ _ c.in_ok-front.ensures in
     omega arith
 
-pub returns-then-tag-eq4 : goal.returns-then-tag-eq4
-returns-then-tag-eq4 c = search look_variable
+pub returns-in_err-body : goal.returns-in_err-body
+returns-in_err-body c =
+    c.from_residual-in_err-body.ensures ∙ search (look_broken, c.in_ok-front.ensures, c.in_err-body.ensures)
 
-pub returns-else-tag-eq4 : goal.returns-else-tag-eq4
-returns-else-tag-eq4 c = search look_plain
+pub returns-then-front-ne0 : goal.returns-then-front-ne0
+returns-then-front-ne0 c = search (look_binder, c.in_ok-front.ensures, c.in_ok-body.ensures)
 
-pub returns-in-Ends : goal.returns-in-Ends
-returns-in-Ends c = search look_binder
+pub returns-then-word_at : goal.returns-then-word_at
+returns-then-word_at c = search (look_variable, c.in_ok-front.ensures)
+
+pub returns : goal.returns
+returns c = search (look_plain, c.in_ok-front.ensures)

@@ -1,12 +1,9 @@
 -- `words::names::holds_handle` meets its contract: a location is found, or a revision, or neither.
-use Rattle.words.proofs.Leaves.{handle_location, handle_revision, handle_none}
+use Rattle.words.proofs.Leaves.{handle_first, handle_second}
 use Rattle.words.proofs.names.holds_handle.Goals as goal
 
-pub returns-in_default : goal.returns-in_default
-returns-in_default c = search handle_location
+pub returns-then-is_some : goal.returns-then-is_some
+returns-then-is_some c = search (handle_first, c.if-is_some.ensures)
 
-pub returns-in_default-next_leaf : goal.returns-in_default-next_leaf
-returns-in_default-next_leaf c = search handle_revision
-
-pub returns : goal.returns
-returns c = search handle_none
+pub returns-else-is_some : goal.returns-else-is_some
+returns-else-is_some c = search (handle_second, c.if-is_some.ensures)

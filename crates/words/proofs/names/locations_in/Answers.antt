@@ -1,23 +1,31 @@
--- `words::names::locations_in` meets its contract. The loop's invariant: the marks so far, with those of the numbers
--- that are named from `p` on, are all that is wanted. The measure is what is left of the words.
-use Rattle.std.proofs.Common.{rules}
-use Rattle.words.proofs.Leaves.{locations_start, locations_end}
-use Rattle.words.proofs.Leaves.{locations_on, locations_past}
+-- `names::locations_in` meets its contract: what is named from `p` on is still to be marked.
+use Rattle.std.proofs.Common.{arith, length, rules, true}
+use mathlib.Core.Path.{sym, ap, ◌∙◌}
+use lib.ListN.{length-set}
+use lib.Seq.{set_out}
+use Rattle.words.specs.declared.names.Leaf.TheVariants.{Location}
+use Rattle.words.proofs.Leaves.{marking_none, marked_all, marking_on}
 use Rattle.words.proofs.names.locations_in.Goals as goal
 use Rattle.words.proofs.names.locations_in.Goals.{then-number-lt256, else-number-lt256}
 
 pub loop-q-init : goal.loop-q-init
-loop-q-init c = locations_start _ _ (search rules)
-
-pub returns-in_default : goal.returns-in_default
-returns-in_default c = search locations_end
+loop-q-init c = (marking_none _ _ _, search rules)
 
 pub loop-q-preserved : goal.loop-q-preserved
 loop-q-preserved c =
-    let n = c.next_leaf in
-    let l = c.loop-q in
+    let (i, n) = c.loop-q.invariant in
     elim c.if-number-lt256.branch [
-      | then-number-lt256 w ↦ locations_on _ _ _ _ _ l.invariant n.ensures _ _ c.in-At.is w.all-is
+      | then-number-lt256 w ↦ (
+        marking_on _ Location _ _ _ i _ c.in-Some.ensures _ w.all-is,
+        ap length w.all-is ∙ length-set c.loop-q.all _ true ∙ n,
+      )
       | else-number-lt256 w ↦
-          locations_past _ _ _ _ _ l.invariant n.ensures _ _ c.in-At.is w.if-number-lt256.false w.all-is
+          let h = w.if-number-lt256.false in (
+            marking_on _ Location _ _ _ i _ c.in-Some.ensures _
+                (w.all-is ∙ sym (set_out c.loop-q.all _ _ (omega arith))),
+            ap length w.all-is ∙ n,
+          )
     ]
+
+pub returns : goal.returns
+returns c = record { marks = marked_all _ Location _ _ _ c.loop-q.invariant.0 c.in_default.ensures }

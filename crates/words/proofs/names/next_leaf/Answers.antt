@@ -1,48 +1,44 @@
--- `words::names::next_leaf` meets its contract. The loop's invariant: no leaf with the tag stands between `at` and `p`.
+-- `words::names::next_leaf` meets its contract. The loop's invariant: no leaf of the kind stands between `at` and `p`.
 -- The measure is what is left of the words.
 use Rattle.std.proofs.Common.{arith}
-use Rattle.words.proofs.Fronts.{Fronted, front_within}
-use Rattle.words.proofs.Children.{Deeper}
-use Rattle.words.proofs.Leaves.{no_front, leaf_here, no_types, body_on, leaf_passed}
+use mathlib.Core.Path.{sym, subst, ◌∙◌}
+use Rattle.words.specs.Names.{NextLeaf}
+use Rattle.words.proofs.Fronts.{front_within}
+use Rattle.words.proofs.Leaves.{passed_none, no_front, leaf_here, no_types, body_on, leaf_passed, leaf_word}
 use Rattle.words.proofs.names.next_leaf.Goals as goal
 
-pub returns-in_default : goal.returns-in_default
-returns-in_default c = search no_front
+pub loop-front-init : goal.loop-front-init
+loop-front-init c = passed_none _ _ _
+
+pub returns-in_err-front : goal.returns-in_err-front
+returns-in_err-front c =
+    subst (NextLeaf c.args.s.now c.args.at c.args.leaf) (sym c.from_residual.ensures)
+    (no_front _ _ _ _ c.loop-front.invariant c.in_err-front.ensures)
 
 pub offset_bounds-s-p : goal.offset_bounds-s-p
-offset_bounds-s-p c =
-    let s = c.args.s.now in
-    let l = c.loop-row in
-    let f : Fronted s 1 l.p c.in-Is.row c.in-Is.next = search front_within in
-    omega arith
+offset_bounds-s-p c = let f = front_within _ _ _ _ c.in_ok-front.ensures in omega arith
 
 pub bounds-s-p : goal.bounds-s-p
-bounds-s-p c =
-    let s = c.args.s.now in
-    let l = c.loop-row in
-    let f : Fronted s 1 l.p c.in-Is.row c.in-Is.next = search front_within in
-    f.within
+bounds-s-p c = (front_within _ _ _ _ c.in_ok-front.ensures).within
 
 pub returns-then-s-p : goal.returns-then-s-p
-returns-then-s-p c = search leaf_here
+returns-then-s-p c =
+    leaf_here _ _ _ _ c.loop-front.invariant _ c.in_ok-front.ensures (c.if-s-p.true ∙ leaf_word c.args.leaf)
 
 pub types_end-requires : goal.types_end-requires
-types_end-requires c =
-    let s = c.args.s.now in
-    let l = c.loop-row in
-    let f : Fronted s 1 l.p c.in-Is.row c.in-Is.next = search front_within in
-    f.types
+types_end-requires c = (front_within _ _ _ _ c.in_ok-front.ensures).types
 
-pub returns-in_default-types_end : goal.returns-in_default-types_end
-returns-in_default-types_end c = search no_types
+pub returns-in_err-p : goal.returns-in_err-p
+returns-in_err-p c =
+    subst (NextLeaf c.args.s.now c.args.at c.args.leaf) (sym c.from_residual-in_err-p.ensures)
+    (no_types _ _ _ _ c.loop-front.invariant _ c.in_ok-front.ensures c.in_err-p.ensures)
 
-pub loop-row-smaller : goal.loop-row-smaller
-loop-row-smaller c =
-    let s = c.args.s
-    in
-    let p = c.loop-row.p in
-    let d : Deeper s.now p c.in-Ends.body = search body_on in
+pub loop-front-smaller : goal.loop-front-smaller
+loop-front-smaller c =
+    let d = body_on _ _ _ _ c.loop-front.invariant _ c.in_ok-front.ensures _ c.in_ok-p.ensures in
     omega arith
 
-pub loop-row-preserved : goal.loop-row-preserved
-loop-row-preserved c = search leaf_passed
+pub loop-front-preserved : goal.loop-front-preserved
+loop-front-preserved c =
+    leaf_passed _ _ _ _ c.loop-front.invariant _ c.in_ok-front.ensures _ c.in_ok-p.ensures
+    (λ e. c.if-s-p.false (e ∙ sym (leaf_word c.args.leaf)))

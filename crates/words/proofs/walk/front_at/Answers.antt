@@ -1,21 +1,44 @@
 -- `walk::front_at` meets its contract: one law for each way through it.
-use Rattle.words.proofs.Fronts.{front_out, front_other, front_bare, front_short, front_fine, front_over}
+use mathlib.Core.Path.{◌∙◌}
+use Rattle.words.proofs.Fronts.{front_out, front_untagged, front_other, front_bare, front_short, front_fine, front_over}
+use Rattle.words.proofs.Fronts.{kinds_differ, kinds_agree}
 use Rattle.words.proofs.walk.front_at.Goals as goal
 
-pub returns-then-s-at : goal.returns-then-s-at
-returns-then-s-at c = search front_out
+pub returns-in_err-tag : goal.returns-in_err-tag
+returns-in_err-tag c = c.from_residual.ensures ∙ front_out _ _ _ c.in_err-tag.ensures.lookup.3
 
-pub returns-then-row-kind : goal.returns-then-row-kind
-returns-then-row-kind c = search front_other
+pub returns-in_err-row : goal.returns-in_err-row
+returns-in_err-row c =
+    let t = c.in_ok-tag.ensures.lookup in
+    c.from_residual-in_err-row.ensures ∙ front_untagged _ _ _ t.3.0 _ (t.3.1 0) c.in_err-row.ensures
 
-pub returns-then-limit-eq0 : goal.returns-then-limit-eq0
-returns-then-limit-eq0 c = search front_bare
+pub returns-then-ne : goal.returns-then-ne
+returns-then-ne c =
+    let t = c.in_ok-tag.ensures.lookup in
+    front_other _ _ _ t.3.0 _ (t.3.1 0) _ c.in_ok-row.ensures (kinds_differ _ _ c.if-ne.ensures)
 
-pub returns-then-s-next : goal.returns-then-s-next
-returns-then-s-next c = search front_short
+pub returns-in_default : goal.returns-in_default
+returns-in_default c =
+    let t = c.in_ok-tag.ensures.lookup in
+    front_bare _ _ _ t.3.0 _ (t.3.1 0) _ c.in_ok-row.ensures (kinds_agree _ _ c.if-ne.ensures) c.in_default.is
+
+pub returns-in_err-own : goal.returns-in_err-own
+returns-in_err-own c =
+    let t = c.in_ok-tag.ensures.lookup in
+    c.from_residual-in_err-own.ensures
+    ∙ front_short _ _ _ t.3.0 _ (t.3.1 0) _ c.in_ok-row.ensures (kinds_agree _ _ c.if-ne.ensures) _ c.in-Some.is
+    c.in_err-own.ensures.lookup.3
 
 pub returns-then-own-limit : goal.returns-then-own-limit
-returns-then-own-limit c = search front_fine
+returns-then-own-limit c =
+    let t = c.in_ok-tag.ensures.lookup in
+    let o = c.in_ok-own.ensures.lookup in
+    front_fine _ _ _ t.3.0 _ (t.3.1 0) _ c.in_ok-row.ensures (kinds_agree _ _ c.if-ne.ensures) _ c.in-Some.is
+    o.3.0 _ (o.3.1 0) c.if-own-limit.true
 
 pub returns-else-own-limit : goal.returns-else-own-limit
-returns-else-own-limit c = search front_over
+returns-else-own-limit c =
+    let t = c.in_ok-tag.ensures.lookup in
+    let o = c.in_ok-own.ensures.lookup in
+    front_over _ _ _ t.3.0 _ (t.3.1 0) _ c.in_ok-row.ensures (kinds_agree _ _ c.if-ne.ensures) _ c.in-Some.is
+    o.3.0 _ (o.3.1 0) c.if-own-limit.false
