@@ -16,9 +16,8 @@ use Rattle.calculus.specs.NewNumbers.{smallest, taken_locations, taken_revisions
 use Rattle.calculus.specs.Answers.{marks_of}
 use Rattle.calculus.proofs.NewNumbers.{smallest_is, is_smallest}
 use Rattle.calculus.proofs.Places.{true≢false}
-use Rattle.words.specs.declared.names.InUse.{InUse}
 use Rattle.words.proofs.Marks.{marks_of_length, marks_of_member}
-use Rattle.image.specs.Marks.{ImageMarks, UsesOf}
+use Rattle.image.specs.Marks.{ImageMarks}
 use Rattle.image.specs.Fresh.{as_option, SmallestClear, NewRevision, NewLocation}
 
 not_true : (b : Bool) → not b ≡ true → b ≡ false
@@ -76,8 +75,9 @@ pub smallest_place : (m : List Bool) (r : Option ℕ) → r ≡ position not m �
 smallest_place m r p = record { free = λ n taken e. place_smallest n taken m e r p }
 
 -- of the marks of an image
-pub revision_found : (s : List ℕ) (u : InUse) (r : Option ℕ) → UsesOf s u → SmallestClear u.marks r → NewRevision s r
-revision_found s u r g f = record { is = λ x v e. f.free 64 (taken_revisions x) (g.names.marks x v e) }
+pub revision_found : (s : List ℕ) (m : List Bool) (r : Option ℕ) → ImageMarks taken_revisions 64 s m → SmallestClear m r
+    → NewRevision s r
+revision_found s m r g f = record { is = λ x v e. f.free 64 (taken_revisions x) (g.marks x v e) }
 
 pub location_found : (s : List ℕ) (m : List Bool) (r : Option ℕ) → ImageMarks taken_locations 256 s m → SmallestClear m r
     → NewLocation s r

@@ -4,7 +4,8 @@ pub mod Seeking
 pub mod Around
 pub mod Walking
 pub mod Gathering
-pub mod Uses
+pub mod Images
 pub mod Locations
+pub mod Revisions
 pub mod Free
 pub mod Reporting

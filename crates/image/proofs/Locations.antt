@@ -1,116 +1,54 @@
--- The walk that marks the locations of all stores: a store, a section, an image.
-use Prim.Native.Nat.{ℕ, ◌+◌, ◌≤◌, ◌<◌}
+-- The locations that the stores of an image take.
+use Prim.Native.Nat.{ℕ, ◌≤◌}
 use mathlib.Core.Bool.{Bool, true, false}
-use mathlib.Core.List.{List, [], ◌∷◌, ◌++◌, append_assoc}
-use mathlib.Core.Path.{◌≡◌, refl, sym, ap, ◌∙◌}
+use mathlib.Core.List.{List, [], ◌∷◌, append_assoc, append-nil}
+use mathlib.Core.Path.{◌≡◌, refl, sym, ap}
 use native.Mathlib.Omega.{arith}
-use lib.ListN.{length, get_or, set, replicate, length-set}
+use lib.ListN.{length, set, replicate}
 use lib.Seq.{set_out}
 use Rattle.calculus.specs.Maps.{keys}
 use Rattle.calculus.specs.Words.{words}
-use Rattle.calculus.specs.Stores.{Cell}
-use Rattle.calculus.specs.States.{Task}
-use Rattle.calculus.specs.Images.{counted, cell_words, task_words, ValidCell, ValidTask}
+use Rattle.calculus.specs.Formed.{Formed}
+use Rattle.calculus.specs.Stores.{Store}
+use Rattle.calculus.specs.States.{State}
+use Rattle.calculus.specs.Images.{counted, cell_words, task_words, ValidCell, ValidTask, Listed}
 use Rattle.calculus.specs.NewNumbers.{taken_locations}
-use Rattle.words.specs.Names.{mark_all}
-use Rattle.words.proofs.Marks.{mark_all_append}
-use Rattle.image.specs.declared.parts.Parts.{Parts}
-use Rattle.image.specs.Standing.{Stands, EndsAt}
-use Rattle.image.specs.Cuts.{PartsAt}
-use Rattle.image.specs.Marks.{StoreMarks, SectionMarks, ImageMarks, task_keys}
-use Rattle.image.proofs.Standing.{stands_left, stands_right, stands_at}
-use Rattle.image.proofs.Seeking.{cell_ends}
-use Rattle.image.proofs.Gathering.{Marking, marking_start, marking_next, store_out, store_marked, store_broken}
-use Rattle.image.proofs.Gathering.{image_marked, image_broken}
+use Rattle.words.specs.Marks.{mark_all}
+use Rattle.image.specs.Marks.{locations, in_map, in_section, MarksOf, MarksAt, ImageMarks}
+use Rattle.image.proofs.Images.{image_marks}
 
--- the keys of a store
-pub record KeyWalk (s : List ℕ) (at n : ℕ) (m₀ m : List Bool) (p i : ℕ) : Type 0 where
-  pub number : n ≡ get_or s at 0
-  pub long : length m ≡ 256
-  pub marking : Marking cell_words ValidCell 255 keys s (at + 1) n m₀ m p i
+-- an entry takes its location; one that is past the marks marks nothing
+pub location_set : (l : ℕ) (ws : List ℕ) (m : List Bool)
+    → MarksOf cell_words ValidCell (locations.entry l) ws m (set m l true)
+unfolding mark_all
+location_set l ws m = record { marks = λ c v e. refl }
 
-pub keys_out : (s : List ℕ) (at : ℕ) (m : List Bool) → length s ≤ at → StoreMarks keys s at m m
-keys_out s at m o = store_out keys s at m o
+pub location_out : (l : ℕ) (ws : List ℕ) (m : List Bool) → length m ≡ 256 → 256 ≤ l
+    → MarksOf cell_words ValidCell (locations.entry l) ws m m
+unfolding mark_all
+location_out l ws m long h = record { marks = λ c v e. sym (set_out m l true (omega arith)) }
 
-pub keys_start : (s : List ℕ) (at n : ℕ) (m : List Bool) → n ≡ get_or s at 0 → length m ≡ 256
-    → KeyWalk s at n m m (at + 1) 0
-keys_start s at n m e l =
-    record { number = e; long = l; marking = marking_start cell_words ValidCell 255 keys s (at + 1) n m }
+-- a section's number and an expression take none
+pub section_none : (r : ℕ) (m : List Bool) → m ≡ mark_all (locations.section r) m
+unfolding mark_all
+section_none r m = refl
 
-module _ (s : List ℕ) (at n : ℕ) (m₀ m : List Bool) (p i : ℕ) (g : KeyWalk s at n m₀ m p i) where
-  pub keys_done : n ≤ i → StoreMarks keys s at m₀ m
-  unfolding keys
-  keys_done l = store_marked keys s at n g.number m₀ m p i g.marking refl l
+pub expression_none : (ws : List ℕ) (m : List Bool) → MarksOf words Formed locations.expression ws m m
+unfolding mark_all
+expression_none ws m = record { marks = λ e f q. refl }
 
-  pub keys_broken : i < n → length s ≤ p → StoreMarks keys s at m₀ m
-  keys_broken l o = store_broken keys s at n g.number m₀ m p i g.marking l o
+-- those of an image
+in_store : (x : Store) → in_map locations.entry x ≡ keys x
+unfolding in_map keys
+in_store [] = refl
+in_store (e ∷ x) = ap (λ (l : List ℕ). e.0 ∷ l) (in_store x)
 
-  -- a key is marked; one that is past the marks marks nothing
-  pub keys_next : i < n → (k q : ℕ) (v : List Bool) → k ≡ get_or s p 0 → EndsAt s (p + 1) q → v ≡ set m k true
-      → KeyWalk s at n m₀ v q (i + 1)
-  unfolding keys mark_all
-  keys_next l k q v is ends e =
-      record {
-        number = g.number;
-        long = ap length e ∙ length-set m k true ∙ g.long;
-        marking =
-            marking_next cell_words ValidCell 255 keys (λ (y : ℕ × Cell). y.0 ∷ []) (λ y x. refl)
-            s (at + 1) n m₀ m p i g.marking l q v
-            (λ y ok same h.
-            (cell_ends s (p + 1) q ends y.1 ok h, e ∙ ap (λ (j : ℕ). set m j true) (is ∙ same)));
-      }
+in_state : (x : State) → in_map (in_section locations) x ≡ taken_locations x
+unfolding in_map taken_locations
+in_state [] = refl
+in_state (e ∷ x) = simp (in_store, append-nil, append_assoc, in_state x)
 
-  pub keys_past : i < n → (k q : ℕ) (v : List Bool) → k ≡ get_or s p 0 → EndsAt s (p + 1) q → 256 ≤ k → v ≡ m
-      → KeyWalk s at n m₀ v q (i + 1)
-  keys_past l k q v is ends o e =
-      keys_next l k q v is ends (e ∙ sym (set_out m k true (omega (arith, g.long))))
-
--- a section
-pub section_keys : (s : List ℕ) (at : ℕ) (parts : Parts) (m a r : List Bool) → StoreMarks keys s at m a
-    → StoreMarks keys s parts.local a r → SectionMarks task_keys s at parts m r
-unfolding task_words
-section_keys s at parts m a r ga gr =
-    record {
-      marks = λ me v h k.
-          let f = counted cell_words me.snapshot in
-          let o = counted cell_words me.local in
-          let x = words me.expression in
-          let h2 : Stands s parts.local (o ++ x)
-          = stands_at parts.local (sym k.local) (stands_right f (o ++ x) h) in
-          gr.marks me.local v.local (stands_left o x h2)
-          ∙ ap (mark_all (keys me.local)) (ga.marks me.snapshot v.snapshot (stands_left f (o ++ x) h))
-          ∙ sym (mark_all_append (keys me.snapshot) (keys me.local) m);
-    }
-
--- an image
-pub record LocationWalk (s : List ℕ) (n : ℕ) (m : List Bool) (p i : ℕ) : Type 0 where
-  pub number : n ≡ get_or s 0 0
-  pub marking : Marking task_words ValidTask 63 taken_locations s 1 n (replicate 256 false) m p i
-
-pub locations_start : (s : List ℕ) (n : ℕ) → n ≡ get_or s 0 0 → LocationWalk s n (replicate 256 false) 1 0
-locations_start s n e =
-    record {
-      number = e;
-      marking = marking_start task_words ValidTask 63 taken_locations s 1 n (replicate 256 false);
-    }
-
-module _ (s : List ℕ) (n : ℕ) (m : List Bool) (p i : ℕ) (g : LocationWalk s n m p i) where
-  pub locations_done : n ≤ i → ImageMarks taken_locations 256 s m
-  unfolding taken_locations
-  locations_done l = image_marked taken_locations 256 s n g.number m p i g.marking refl l
-
-  pub locations_out : i < n → length s ≤ p → ImageMarks taken_locations 256 s m
-  locations_out l o = image_broken taken_locations 256 s n g.number m p i g.marking l o
-
-  pub locations_next : i < n → (c : Parts) (v : List Bool) → PartsAt s (p + 1) c
-      → SectionMarks task_keys s (p + 1) c m v → LocationWalk s n v c.end (i + 1)
-  unfolding taken_locations
-  locations_next l c v h marks =
-      record {
-        number = g.number;
-        marking =
-            marking_next task_words ValidTask 63 taken_locations (λ (y : ℕ × Task). task_keys y.1)
-            (λ y x. sym (append_assoc (keys y.1.snapshot) (keys y.1.local) (taken_locations x)))
-            s 1 n (replicate 256 false) m p i g.marking l c.end v
-            (λ y ok k st. let e = h.cut y.1 ok st in (e.end, marks.marks y.1 ok st e));
-      }
+pub taken : (s : List ℕ) (r : List Bool)
+    → MarksAt (counted task_words) (Listed ValidTask 63 0) (in_map (in_section locations)) s 0 (replicate 256 false) r
+    → ImageMarks taken_locations 256 s r
+taken s r g = image_marks (in_section locations) taken_locations in_state 256 s r g

@@ -3,7 +3,7 @@ use Prim.Native.Nat.{ℕ, suc, ◌+◌, ◌≤◌, ◌<◌}
 use mathlib.Core.Bool.{Bool, true, false, cond}
 use mathlib.Core.List.{List, [], ◌∷◌, ◌++◌, append_assoc}
 use mathlib.Core.Option.{Option as Maybe, none, some}
-use Rattle.std.specs.Prelude.{Some, None, Result, Ok, Err}
+use Rattle.std.specs.Prelude.{MatchOption, Option, Some, None, Result, Ok, Err}
 use mathlib.Core.Path.{◌≡◌, refl, sym, ap, ◌∙◌, subst}
 use native.Mathlib.Omega.{arith}
 use lib.Dec.{eqb, ltb}
@@ -12,14 +12,13 @@ use borrow.Author.Tests.{le-ltb, lt-ltb, eq-eqb, ne_eqb}
 use Rattle.calculus.specs.Maps.{Map, get, put, remove, Rising}
 use Rattle.calculus.specs.Words.{words}
 use Rattle.calculus.specs.Stores.{Cell, plain, Store}
-use Rattle.calculus.specs.States.{Task, view}
 use Rattle.calculus.specs.Images.{entries, counted, cell_words, task_words, Listed, ValidCell, ValidTask}
 use Rattle.calculus.proofs.Maps.{Tri, below, same, above, tri, or_else, get_overlaid, above_rising, get_above}
 use Rattle.calculus.proofs.Maps.{get_tail, get_none}
 use Rattle.calculus.proofs.Validity.{listed_rising}
 use Rattle.image.specs.declared.parts.Parts.{Parts}
 use Rattle.image.specs.Standing.{Stands, EndsAt}
-use Rattle.image.specs.Cuts.{before, onward, beyond, hits, Skips, place_if, seek_of, Seeks, PartsAt, CellAt, Found}
+use Rattle.image.specs.Cuts.{before, onward, beyond, hits, Skips, Past, place_if, seek_of, Seeks, PartsAt, CellAt, ValueIn, Found}
 use Rattle.image.proofs.Standing.{headed, stands_left, stands_right, stands_at, stands_as}
 
 module _ {A : Type 0} where
@@ -213,10 +212,9 @@ module _ {A : Type 0} (w : A → List ℕ) (ok : A → Type 0) (top : ℕ) where
                 ∙ here (omega arith) (g.sees m low u h c);
           }
 
-      pub seek_next : x ≤ k → (k ≡ x → ⊥) → (q : ℕ) → ((a : A) → ok a → Stands s (p + 1) (w a) → q ≡ p + 1 + length (w a))
-          → q ≤ length s → Seeking s at n k q (i + 1)
+      pub seek_next : x ≤ k → (k ≡ x → ⊥) → (q : ℕ) → Past w ok s (p + 1) q → Seeking s at n k q (i + 1)
       unfolding before hits Listed
-      seek_next o d₀ q ends hi = record { high = λ h. hi; sees = λ m low u h c. go (g.sees m low u h c) }
+      seek_next o d₀ q past = record { high = λ h. past.high; sees = λ m low u h c. go (g.sees m low u h c) }
         where
           go : {r : Result ℕ ℕ} → Left s k n p i r → Left s k n q (i + 1) r
           go {r} f = next f.map f.listed f.count f.stand f.same
@@ -228,7 +226,7 @@ module _ {A : Type 0} (w : A → List ℕ) (ok : A → Type 0) (top : ℕ) where
                   let hd = headed d in
                   let v : x ≡ y.0 = is ∙ hd.is in
                   let b : ltb y.0 k ≡ true = lt-ltb y.0 k (omega arith) in
-                  let z = ends y.1 u.2 (stands_left (w y.1) (entries w m) hd.more) in
+                  let z = past.ends y.1 u.2 (stands_left (w y.1) (entries w m) hd.more) in
                   let la = length-append (w y.1) (entries w (before k m)) in
                   let t : p + length (y.0 ∷ (w y.1 ++ entries w (before k m)))
                   ≡ q + length (entries w (before k m))
@@ -316,16 +314,12 @@ module _ (s : List ℕ) (at n p i : ℕ) (g : Skipping s at n p i) where
                 to = omega arith;
               }
 
--- the search in a store, and among sections
-pub entry_next : (s : List ℕ) (at n k p i x q : ℕ) → Seeking cell_words ValidCell 255 s at n k p i → i < n
-    → x ≡ get_or s p 0 → x ≤ k → (k ≡ x → ⊥) → EndsAt s (p + 1) q → Seeking cell_words ValidCell 255 s at n k q (i + 1)
-entry_next s at n k p i x q g l is o d ends =
-    seek_next cell_words ValidCell 255 s at n k p i g l x is o d q (cell_ends s (p + 1) q ends) ends.high
+-- an entry and a section end where they are said to
+pub entry_past : (s : List ℕ) (at q : ℕ) → EndsAt s at q → Past cell_words ValidCell s at q
+entry_past s at q e = record { high = e.high; ends = cell_ends s at q e }
 
-pub section_next : (s : List ℕ) (at n k p i x : ℕ) (c : Parts) → Seeking task_words ValidTask 63 s at n k p i → i < n
-    → x ≡ get_or s p 0 → x ≤ k → (k ≡ x → ⊥) → PartsAt s (p + 1) c → Seeking task_words ValidTask 63 s at n k c.end (i + 1)
-section_next s at n k p i x c g l is o d h =
-    seek_next task_words ValidTask 63 s at n k p i g l x is o d c.end (λ a u st. (h.cut a u st).end) h.end
+pub section_past : (s : List ℕ) (at : ℕ) (c : Parts) → PartsAt s at c → Past task_words ValidTask s at c.end
+section_past s at c h = record { high = h.end; ends = λ a u st. (h.cut a u st).end }
 
 -- the parts of a section
 pub cut : (s : List ℕ) (at n local m expression end : ℕ) → at ≤ length s → n ≡ get_or s at 0
@@ -336,6 +330,7 @@ cut s at n local m expression end b ni a mi c e =
     record {
       local = a.high;
       expression = c.high;
+      order = e.from c.high;
       end = e.high;
       cut = λ me v h.
           let f = counted cell_words me.snapshot in
@@ -380,44 +375,41 @@ miss_cell s at n l q p m low k u h c t =
     (sym t ∙ k.answer m low u h c) in
     miss_get l m (listed_rising ValidCell 255 m low u) e.0
 
-module _ (s : List ℕ) (snapshot local l n : ℕ) (ni : n ≡ get_or s local 0) (a : Result ℕ ℕ)
-    (ka : Seeks cell_words ValidCell 255 s (local + 1) n l a) (p : ℕ) where
-  pub in_local_lem : a ≡ Ok p → Found s snapshot local l (Some (p + 1))
-  in_local_lem t =
+-- the value in a store, and in a view
+module _ (s : List ℕ) (store l n : ℕ) (ni : n ≡ get_or s store 0) (q : Result ℕ ℕ)
+    (k : Seeks cell_words ValidCell 255 s (store + 1) n l q) (p : ℕ) where
+  pub value_here : q ≡ Ok p → ValueIn s store l (Some (p + 1))
+  value_here t =
       record {
-        answer = λ me v hs ho.
-            let h = headed ho in
-            let (x, g, st) = hit_cell s (local + 1) n l a p me.local 0 ka v.local h.more (sym (ni ∙ h.is)) t in
-            subst (λ (o : Maybe Cell). CellAt s o (Some (p + 1)))
-            (sym (get_overlaid l me.snapshot me.local ∙ ap (λ o. or_else o (get l me.snapshot)) g)) st;
+        answer = λ m v st.
+            let h = headed st in
+            let (c, g, at) = hit_cell s (store + 1) n l q p m 0 k v h.more (sym (ni ∙ h.is)) t in
+            subst (λ (o : Maybe Cell). CellAt s o (Some (p + 1))) (sym g) at;
       }
 
-  module _ (t : a ≡ Err p) (m : ℕ) (mi : m ≡ get_or s snapshot 0) (b : Result ℕ ℕ)
-      (kb : Seeks cell_words ValidCell 255 s (snapshot + 1) m l b) (q : ℕ) where
-    not_local : (me : Task) → ValidTask me → Stands s local (counted cell_words me.local)
-        → get l (view me) ≡ get l me.snapshot
-    not_local me v ho =
-        let h = headed ho in
-        get_overlaid l me.snapshot me.local
-        ∙ ap (λ o. or_else o (get l me.snapshot))
-        (miss_cell s (local + 1) n l a p me.local 0 ka v.local h.more (sym (ni ∙ h.is)) t)
+  pub value_missing : q ≡ Err p → ValueIn s store l None
+  value_missing t =
+      record {
+        answer = λ m v st.
+            let h = headed st in
+            subst (λ (o : Maybe Cell). CellAt s o None)
+            (sym (miss_cell s (store + 1) n l q p m 0 k v h.more (sym (ni ∙ h.is)) t)) tt;
+      }
 
-    pub in_snapshot : b ≡ Ok q → Found s snapshot local l (Some (q + 1))
-    in_snapshot y =
-        record {
-          answer = λ me v hs ho.
-              let h = headed hs in
-              let (x, g, st)
-              = hit_cell s (snapshot + 1) m l b q me.snapshot 0 kb v.snapshot h.more (sym (mi ∙ h.is)) y in
-              subst (λ (o : Maybe Cell). CellAt s o (Some (q + 1))) (sym (not_local me v ho ∙ g)) st;
-        }
-
-    pub nowhere : b ≡ Err q → Found s snapshot local l None
-    nowhere y =
-        record {
-          answer = λ me v hs ho.
-              let h = headed hs in
-              let g = miss_cell s (snapshot + 1) m l b q me.snapshot 0 kb v.snapshot h.more (sym (mi ∙ h.is)) y
-              in
-              subst (λ (o : Maybe Cell). CellAt s o None) (sym (not_local me v ho ∙ g)) tt;
-        }
+-- the local store's value, or else the snapshot's
+pub in_view : {P : Type 0} (s : List ℕ) (snapshot local l : ℕ) (a r : Option ℕ) → ValueIn s local l a
+    → (P → ValueIn s snapshot l r) → MatchOption a P (λ x. r ≡ Some x) → Found s snapshot local l r
+in_view {P} s snapshot local l a r ka to h =
+    record {
+      answer = λ me v hs ho.
+          rw get_overlaid
+          (go a h (get l me.local) (ka.answer me.local v.local ho) (get l me.snapshot)
+          (λ k. (to k).answer me.snapshot v.snapshot hs));
+    }
+  where
+    go : (a : Option ℕ) → MatchOption a P (λ x. r ≡ Some x) → (x : Maybe Cell) → CellAt s x a
+        → (y : Maybe Cell) → (P → CellAt s y r) → CellAt s (or_else x y) r
+    go None h none k y f = f h
+    go None h (some c) k y f = absurd k
+    go (Some p) h none k y f = absurd k
+    go (Some p) h (some c) k y f = rw h k

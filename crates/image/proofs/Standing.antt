@@ -9,9 +9,9 @@ use lib.Seq.{drop-drop, drop_at, take_at, get_or-drop}
 use Rattle.calculus.specs.Reading.{end_of}
 use Rattle.calculus.proofs.Options.{none≢some, some_inj}
 use Rattle.words.specs.Walks.{walk_of}
-use Rattle.words.specs.declared.walk.Walk.{Walk}
-use Rattle.words.specs.declared.walk.Walk.TheVariants.{Ends, Broken}
-use Rattle.words.proofs.Children.{walk_ends, walk_broken}
+use Rattle.std.specs.Prelude.{Option}
+use Rattle.std.specs.Option.{unwrap_or}
+use mathlib.Core.Option.{Option as Maybe, none, some}
 use Rattle.words.proofs.Ends.{end_words, expression_stands, words_long}
 use Rattle.image.specs.Standing.{Stands, EndsAt}
 
@@ -60,22 +60,27 @@ pub stands_fits : {s : List ℕ} {at : ℕ} {ws : List ℕ} → Stands s at ws �
 stands_fits {s} {at} {ws} h l = omega (arith, simp (length-drop, length-append) at (ap length h.eq))
 
 -- an expression ends where its walk does; where no walk ends, none stands
-pub past_end : (s : List ℕ) (at : ℕ) (w : Walk) (end : ℕ) → w ≡ walk_of (end_of s at) → w ≡ Ends end → EndsAt s at end
-past_end s at w end q d =
-    let e = walk_ends (end_of s at) w end q d in
-    let g = expression_stands s at end e in
-    let to = g.to in
-    record {
-      high = g.high;
-      low = λ l. omega (arith, words_long g.tree);
-      ends = λ t f h. some_inj (sym e ∙ end_words t s h.rest at f h.eq);
-    }
-
-pub past_none : (s : List ℕ) (at : ℕ) (w : Walk) → w ≡ walk_of (end_of s at) → w ≡ Broken → EndsAt s at (length s)
-past_none s at w q d =
-    let e = walk_broken (end_of s at) w q d in
-    record {
-      high = omega arith;
-      low = λ l. l;
-      ends = λ t f h. none≢some (sym e ∙ end_words t s h.rest at f h.eq);
-    }
+pub past_is : (s : List ℕ) (at : ℕ) (w : Option ℕ) (r : ℕ) → w ≡ walk_of (end_of s at) → r ≡ unwrap_or w (length s)
+    → EndsAt s at r
+past_is s at w r q d = go (end_of s at) refl
+  where
+    go : (o : Maybe ℕ) → end_of s at ≡ o → EndsAt s at r
+    go (some end) e =
+        let g = expression_stands s at end e in
+        let to = g.to in
+        let is : r ≡ end = d ∙ ap (λ w. unwrap_or w (length s)) (q ∙ ap walk_of e) in
+        let high = g.high in
+        record {
+          high = omega arith;
+          low = λ l. omega (arith, words_long g.tree);
+          from = λ l. omega (arith, words_long g.tree);
+          ends = λ t f h. is ∙ some_inj (sym e ∙ end_words t s h.rest at f h.eq);
+        }
+    go none e =
+        let is : r ≡ length s = d ∙ ap (λ w. unwrap_or w (length s)) (q ∙ ap walk_of e) in
+        record {
+          high = omega arith;
+          low = λ l. omega arith;
+          from = λ l. omega arith;
+          ends = λ t f h. none≢some (sym e ∙ end_words t s h.rest at f h.eq);
+        }

@@ -6,7 +6,7 @@ use Rattle.std.proofs.Math.Option.{Option as Maybe, none, some}
 use Rattle.calculus.specs.Maps.{Map, get}
 use Rattle.calculus.specs.Stores.{Cell, Store}
 use Rattle.calculus.specs.States.{Task, view}
-use Rattle.calculus.specs.Images.{entries, counted, cell_words, task_words, Listed, ValidCell, ValidTask}
+use Rattle.calculus.specs.Images.{entries, counted, cell_words, task_words, Listed, ValidCell, ValidStore, ValidTask}
 use Rattle.image.specs.declared.parts.Parts.{Parts}
 use Rattle.image.specs.Standing.{Stands}
 
@@ -46,6 +46,11 @@ place_in (Err at) = at
 abbrev pub seek_of : {A : Type 0} → (A → List ℕ) → ℕ → ℕ → Map A → Result ℕ ℕ
 seek_of w at k m = place_if (hits k m) (at + length (entries w (before k m)))
 
+-- r is in s and is where the item ends that stands at `at`, written by w
+pub record Past {A : Type 0} (w : A → List ℕ) (ok : A → Type 0) (s : List ℕ) (at r : ℕ) : Type 0 where
+  pub high : r ≤ length s
+  pub ends : (a : A) → ok a → Stands s at (w a) → r ≡ at + length (w a)
+
 -- the place of k among n entries, each written by w, that stand at `at`
 pub record Seeks {A : Type 0} (w : A → List ℕ) (ok : A → Type 0) (top : ℕ)
     (s : List ℕ) (at n k : ℕ) (r : Result ℕ ℕ) : Type 0 where
@@ -62,6 +67,7 @@ pub record Cut (at : ℕ) (me : Task) (r : Parts) : Type 0 where
 pub record PartsAt (s : List ℕ) (at : ℕ) (r : Parts) : Type 0 where
   pub local : r.local ≤ length s
   pub expression : r.expression ≤ length s
+  pub order : r.expression ≤ r.end
   pub end : r.end ≤ length s
   pub cut : (me : Task) → ValidTask me → Stands s at (task_words me) → Cut at me r
 
@@ -71,6 +77,10 @@ CellAt s none None = Unit {0}
 CellAt s none (Some p) = ⊥
 CellAt s (some c) None = ⊥
 CellAt s (some c) (Some p) = Stands s p (cell_words c)
+
+-- l in the store that stands there
+pub record ValueIn (s : List ℕ) (store l : ℕ) (r : Option ℕ) : Type 0 where
+  pub answer : (m : Store) → ValidStore m → Stands s store (counted cell_words m) → CellAt s (get l m) r
 
 -- l in the view of the task whose stores stand there
 pub record Found (s : List ℕ) (snapshot local l : ℕ) (r : Option ℕ) : Type 0 where

@@ -1,20 +1,18 @@
 -- A walk over words that matches a reader of calculus: it ends where the reader stops, or both refuse.
-use Rattle.std.specs.Prelude.{ℕ, ◌≤◌, ◌≡◌, List, length, drop}
-use Rattle.std.proofs.Math.Option.{Option, none, some}
+use Rattle.std.specs.Prelude.{ℕ, ◌≤◌, ◌≡◌, List, length, drop, Option, Some, None}
+use Rattle.std.proofs.Math.Option.{Option as Maybe, none, some}
 use Rattle.calculus.specs.Maps.{Map}
 use Rattle.calculus.specs.Reading.{Reader}
 use Rattle.calculus.specs.Images.{read_entries, read_map}
-use Rattle.words.specs.declared.walk.Walk.{Walk}
-use Rattle.words.specs.declared.walk.Walk.TheVariants.{Ends, Broken}
 
-abbrev pub Matches : {A : Type 0} → List ℕ → Option (A × List ℕ) → Walk → Type 0
-Matches s none Broken = Unit {0}
-Matches s none (Ends e) = ⊥
-Matches s (some p) Broken = ⊥
-Matches s (some p) (Ends e) = (p.1 ≡ drop e s) × (e ≤ length s)
+abbrev pub Matches : {A : Type 0} → List ℕ → Maybe (A × List ℕ) → Option ℕ → Type 0
+Matches s none None = Unit {0}
+Matches s none (Some e) = ⊥
+Matches s (some p) None = ⊥
+Matches s (some p) (Some e) = (p.1 ≡ drop e s) × (e ≤ length s)
 
 -- the walk from `at` on, against a reader as deep as there are words
-pub record Matched {A : Type 0} (read : ℕ → Reader A) (s : List ℕ) (at : ℕ) (w : Walk) : Type 0 where
+pub record Matched {A : Type 0} (read : ℕ → Reader A) (s : List ℕ) (at : ℕ) (w : Option ℕ) : Type 0 where
   pub matches : Matches s (read (length s) (drop at s)) w
 
 -- n entries by rising key, none over `top`; and such entries after their count, which is at most `most`

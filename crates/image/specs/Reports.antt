@@ -1,7 +1,7 @@
 -- A report as the paper's: its number, the marks and their count.
 use Rattle.std.specs.Prelude.{Result, Ok, Err, false, replicate}
 use Rattle.calculus.specs.Answers.{Report}
-use Rattle.words.specs.declared.names.InUse.{InUse}
+use Rattle.words.specs.declared.in_use.InUse.{InUse}
 use Rattle.image.specs.declared.report.NotValid.{NotValid}
 
 -- a refusal is the number 8, with no marks

@@ -13,4 +13,5 @@ pub record Stands (s : List ℕ) (at : ℕ) (ws : List ℕ) : Type 0 where
 pub record EndsAt (s : List ℕ) (at r : ℕ) : Type 0 where
   pub high : r ≤ length s
   pub low : at < length s → at < r
+  pub from : at ≤ length s → at ≤ r
   pub ends : (e : Expression) → Formed e → Stands s at (words e) → r ≡ at + length (words e)

@@ -4,7 +4,6 @@ ghost use Rattle.image.specs.Fresh.{SmallestClear, NewRevision, NewLocation};
 
 use crate::taken::taken_locations;
 use crate::used::in_use;
-use words::names::InUse;
 
 // The smallest number whose mark is clear, if there is one.
 pub fn smallest_clear(marks: &[bool]) -> Option<u16>
@@ -15,25 +14,16 @@ pub fn smallest_clear(marks: &[bool]) -> Option<u16>
     Some(place as u16)
 }
 
-// The smallest revision number that is not in use.
-pub fn free_revision(used: InUse) -> Option<u16>
-    ensures { SmallestClear used.marks result }
-{
-    let marks = used.marks;
-    smallest_clear(&marks)
-}
-
 // The number of a new revision: neither live nor mentioned.
 pub fn new_revision(s: &[u16]) -> Option<u16>
     ensures { NewRevision s.now result }
 {
-    free_revision(in_use(s))
+    smallest_clear(&in_use(s).marks)
 }
 
 // A new location: in no snapshot and no local store.
 pub fn new_location(s: &[u16]) -> Option<u16>
     ensures { NewLocation s.now result }
 {
-    let marks = taken_locations(s);
-    smallest_clear(&marks)
+    smallest_clear(&taken_locations(s))
 }

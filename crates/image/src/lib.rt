@@ -2,6 +2,8 @@
 #![tactic(auto)]
 
 pub mod fresh;
+pub mod items;
+pub mod marks;
 pub mod nodes;
 pub mod parts;
 pub mod report;

@@ -1,9 +1,11 @@
 // The parts of an image: the section of a revision, its stores and its expression, and an entry of a store.
 ghost use Rattle.std.specs.Prelude.{◌≤◌, ◌<◌, length};
 ghost use Rattle.calculus.specs.Images.{cell_words, task_words, ValidCell, ValidTask};
-ghost use Rattle.image.specs.Cuts.{Skips, Seeks, PartsAt, Found};
+ghost use Rattle.image.specs.Cuts.{Skips, Seeks, PartsAt, ValueIn, Found};
 
-use crate::nodes::{past, word_at};
+use crate::items::{Entry, Section, seek};
+use crate::nodes::past;
+use words::reading::word_at;
 
 // Where n entries of a store that start at `at` end.
 pub fn skip(s: &[u16], at: usize, n: usize) -> usize
@@ -23,21 +25,7 @@ pub fn skip(s: &[u16], at: usize, n: usize) -> usize
 pub fn seek_entry(s: &[u16], at: usize, n: usize, l: u16) -> Result<usize, usize>
     ensures { Seeks cell_words ValidCell 255 s.now at n l result }
 {
-    let mut p = at;
-    for _ in 0..n {
-        if s.len() <= p {
-            return Err(p);
-        }
-        let key = s[p];
-        if l < key {
-            return Err(p);
-        }
-        if l == key {
-            return Ok(p);
-        }
-        p = past(s, p + 1);
-    }
-    Err(p)
+    seek::<Entry>(s, at, n, l)
 }
 
 // Of a section whose snapshot's count stands at `at`: where its local store's count, its expression and its end stand.
@@ -68,34 +56,25 @@ pub fn parts_of(s: &[u16], at: usize) -> Parts
 pub fn seek_section(s: &[u16], at: usize, n: usize, r: u16) -> Result<usize, usize>
     ensures { Seeks task_words ValidTask 63 s.now at n r result }
 {
-    let mut p = at;
-    for _ in 0..n {
-        if s.len() <= p {
-            return Err(p);
-        }
-        let key = s[p];
-        if r < key {
-            return Err(p);
-        }
-        if r == key {
-            return Ok(p);
-        }
-        let c = parts_of(s, p + 1);
-        p = c.end;
-    }
-    Err(p)
+    seek::<Section>(s, at, n, r)
 }
 
-// Where the value of location l in a view starts, if it is in the view: in the local store at `local`, or else in the snapshot at `snapshot`.
+// Where the value of location l starts in the store whose count stands at `store`, if it is there.
+fn value_in(s: &[u16], store: usize, l: u16) -> Option<usize>
+    requires { store < length s.now }
+    ensures { ValueIn s.now store l result }
+{
+    match seek_entry(s, store + 1, word_at(s, store) as usize, l) {
+        Ok(at) => Some(at + 1),
+        Err(_) => None,
+    }
+}
+
+// Where the value of location l in a view starts, if it is there: in the local store at `local`, or else in the
+// snapshot at `snapshot`.
 pub fn look_up(s: &[u16], snapshot: usize, local: usize, l: u16) -> Option<usize>
     requires { (snapshot < length s.now) × (local < length s.now) }
     ensures { Found s.now snapshot local l result }
 {
-    if let Ok(own) = seek_entry(s, local + 1, word_at(s, local) as usize, l) {
-        return Some(own + 1);
-    }
-    if let Ok(old) = seek_entry(s, snapshot + 1, word_at(s, snapshot) as usize, l) {
-        return Some(old + 1);
-    }
-    None
+    value_in(s, local, l).or_else(|| value_in(s, snapshot, l))
 }

@@ -1,0 +1,148 @@
+// The items of an image's two kinds of map, each after its key: the entries of a store and the sections of a state.
+ghost use Rattle.std.specs.Prelude.{ℕ, List, ◌+◌, ◌≤◌, ◌<◌, length, get_or};
+ghost use Rattle.calculus.specs.Stores.{Cell};
+ghost use Rattle.calculus.specs.States.{Task};
+ghost use Rattle.calculus.specs.Reading.{Reader};
+ghost use Rattle.calculus.specs.Images.{cell_words, task_words, ValidCell, ValidTask, read_cell, read_task};
+ghost use Rattle.image.specs.Cuts.{Past, Seeks};
+ghost use Rattle.image.specs.Matches.{Matched};
+ghost use Rattle.image.specs.Marks.{Taking, in_section, MarksAt};
+
+use crate::marks::{Marks, mark_items};
+use crate::nodes::past;
+use crate::parts::parts_of;
+use crate::valid::map_end;
+use words::closed::closed_end_of;
+use words::reading::word_at;
+use words::tags::Tag;
+
+// What the words of an item tell, what they are, which are valid, their reader, and the numbers that an item takes.
+pub trait Item {
+    ghost Told: { Type 0 };
+
+    ghost told_words: { Told → List ℕ };
+
+    ghost IsValid: { Told → Type 0 };
+
+    ghost read: { ℕ → Reader Told };
+
+    ghost taken: { Taking → ℕ → Told → List ℕ };
+
+    // The largest key.
+    const LARGEST: u16;
+
+    ghost LARGEST: { ℕ };
+
+    // Where the item at `at` ends.
+    fn past(s: &[u16], at: usize) -> usize
+        requires { at ≤ length s.now }
+        ensures { Past told_words IsValid s.now at result };
+
+    // Where the item at `at` ends, if a valid one stands there.
+    fn end(s: &[u16], at: usize) -> Option<usize>
+        ensures { Matched read s.now at result };
+
+    // Sets the marks of the item whose key stands at `at`; where it ends.
+    fn mark<M: Marks>(s: &[u16], at: usize, marks: &mut M) -> usize
+        requires { at < length s.now }
+        ensures past { Past told_words IsValid s.now (at + 1) result }
+        ensures marked { MarksAt told_words IsValid (taken M.taking (get_or s.now at 0)) s.now (at + 1) (M.marks marks.old) (M.marks marks.new) };
+}
+
+// The largest tag of a closed value.
+const LARGEST_VALUE: u16 = Tag::Lambda as u16;
+
+// The value of a location.
+pub struct Entry;
+
+impl Item for Entry {
+    ghost Told = { Cell };
+
+    ghost told_words = { cell_words };
+
+    ghost IsValid = { ValidCell };
+
+    ghost read = { read_cell };
+
+    ghost taken = { λ t l c. t.entry l c };
+
+    const LARGEST: u16 = 255;
+
+    ghost LARGEST = { 255 };
+
+    fn past(s: &[u16], at: usize) -> usize {
+        past(s, at)
+    }
+
+    fn end(s: &[u16], at: usize) -> Option<usize> {
+        if LARGEST_VALUE < word_at(s, at) {
+            return None;
+        }
+        closed_end_of(s, at)
+    }
+
+    fn mark<M: Marks>(s: &[u16], at: usize, marks: &mut M) -> usize {
+        let end = past(s, at + 1);
+        marks.mark_entry(s[at], &s[at + 1..end]);
+        end
+    }
+}
+
+// The stores and the expression of a revision.
+pub struct Section;
+
+impl Item for Section {
+    ghost Told = { Task };
+
+    ghost told_words = { task_words };
+
+    ghost IsValid = { ValidTask };
+
+    ghost read = { read_task };
+
+    ghost taken = { in_section };
+
+    const LARGEST: u16 = 63;
+
+    ghost LARGEST = { 63 };
+
+    fn past(s: &[u16], at: usize) -> usize {
+        parts_of(s, at).end
+    }
+
+    fn end(s: &[u16], at: usize) -> Option<usize> {
+        let local = map_end::<Entry>(s, at)?;
+        let expression = map_end::<Entry>(s, local)?;
+        closed_end_of(s, expression)
+    }
+
+    fn mark<M: Marks>(s: &[u16], at: usize, marks: &mut M) -> usize {
+        let parts = parts_of(s, at + 1);
+        marks.mark_section(s[at]);
+        mark_items::<Entry, M>(s, at + 1, marks);
+        mark_items::<Entry, M>(s, parts.local, marks);
+        marks.mark_expression(&s[parts.expression..parts.end]);
+        parts.end
+    }
+}
+
+// Where the item with the key stands among n items that start at `at`, or else where it would go.
+pub fn seek<I: Item>(s: &[u16], at: usize, n: usize, key: u16) -> Result<usize, usize>
+    ensures { Seeks I.told_words I.IsValid I.LARGEST s.now at n key result }
+{
+    let mut p = at;
+    for _ in 0..n {
+        if s.len() <= p {
+            return Err(p);
+        }
+        let here = s[p];
+        if key < here {
+            return Err(p);
+        }
+        if key == here {
+            return Ok(p);
+        }
+        p = I::past(s, p + 1);
+    }
+    Err(p)
+}
