@@ -3,9 +3,10 @@ ghost use Rattle.std.specs.Prelude.{◌+◌, ◌<◌, ◌≤◌, length};
 ghost use Rattle.write.specs.Overlay.{IsNext, SplitFirst, Turns, WroteOverlay};
 
 use crate::cursor::{copy_part, put_word};
-use image::nodes::{past, word_at};
+use image::nodes::past;
 use std::cmp::Ordering;
 use std::ops::Range;
+use words::reading::word_at;
 
 // What is left of a store: so many entries, the first of which stands at `at`.
 #[derive(Clone, Copy, PartialEq, Eq, Debug)]
