@@ -1,6 +1,9 @@
--- A look at a node of words: the tags that stand there are the tree's, and a law for each way through `look`.
-use Prim.Native.Nat.{ℕ, ◌+◌, ◌<◌, ◌≤◌}
-use mathlib.Core.Path.{◌≡◌, refl, sym, ap, ◌∙◌}
+-- A look at a node of words: the tags that stand there are the tree's, the child that decides, and a law for each way
+-- through `look`.
+use Prim.Native.Nat.{ℕ, ◌+◌, ◌<◌}
+use mathlib.Core.Path.{subst as along, ◌≡◌, refl, sym, ◌∙◌}
+use mathlib.Core.Logic.{inl, inr}
+use lib.Dec.{leb}
 use mathlib.Core.Bool.{Bool, true, false}
 use mathlib.Core.List.{List, []}
 use native.Mathlib.Omega.{arith}
@@ -11,12 +14,15 @@ use Rattle.calculus.specs.Formed.{Formed, value}
 use Rattle.calculus.specs.Redexes.{redex}
 use Rattle.calculus.specs.Places.{second_of, stuck_at, place}
 use Rattle.image.specs.Standing.{Stands, EndsAt}
-use Rattle.image.proofs.Standing.{headed, stands_left, stands_right}
+use Rattle.image.proofs.Standing.{headed, stands_left, stands_right, stands_at}
+use Rattle.std.specs.Prelude.{Some, None}
+use Rattle.words.specs.declared.tags.Tag.{Tag}
+use Rattle.words.specs.Tags.{word_of}
 use Rattle.place.specs.declared.Move.TheVariants.{Enter, IsValue, IsRedex, IsStuck}
-use Rattle.place.specs.Search.{top_tag, asks_second, FirstTag, SecondTag, is_some, Asks, RedexBy, Enters, Looks}
-use Rattle.place.proofs.Tags.{told_small, told_large}
-use Rattle.place.proofs.Nodes.{differ, FirstValue, place_value, place_redex, stuck_first, enter_first}
-use Rattle.place.proofs.Nodes.{stuck_second, enter_second}
+use Rattle.place.specs.Search.{top_tag, asks_second, FirstTag, SecondTag, is_some, TagAt, RedexBy, ChildAt}
+use Rattle.place.specs.Search.{Decides, Enters, Looks}
+use Rattle.place.proofs.Tags.{told_value, told_known}
+use Rattle.place.proofs.Nodes.{differ, place_value, place_redex, stuck_first, enter_first, stuck_second, enter_second}
 
 -- the tags that stand there
 pub inside : (s : List ℕ) (p : ℕ) (e : Expression) → Stands s p (words e) → p < length s
@@ -55,150 +61,171 @@ module _ (s : List ℕ) (p : ℕ) where
   unfolding words
   if_first a b c h = stands_left (words a) _ (headed h).more
 
-  first_at : (e : Expression) → Stands s p (words e) → FirstTag e (get_or s (p + 1) 0)
-  first_at (constant c) h = tt
-  first_at (leaf k n) h = tt
-  first_at (lambda x A e) h = tt
-  first_at (one o a) h = top_at s (p + 1) a (one_first o a h)
-  first_at (two o a b) h = top_at s (p + 1) a (two_first o a b h)
-  first_at (if a b c) h = top_at s (p + 1) a (if_first a b c h)
+  first_at : (t : ℕ) → t ≡ get_or s (p + 1) 0 → (e : Expression) → Stands s p (words e) → FirstTag e t
+  first_at t is (constant c) h = tt
+  first_at t is (leaf k n) h = tt
+  first_at t is (lambda x A e) h = tt
+  first_at t is (one o a) h = is ∙ top_at s (p + 1) a (one_first o a h)
+  first_at t is (two o a b) h = is ∙ top_at s (p + 1) a (two_first o a b h)
+  first_at t is (if a b c) h = is ∙ top_at s (p + 1) a (if_first a b c h)
 
-  first_inside : (e : Expression) → value e ≡ false → Stands s p (words e) → p + 1 < length s
-  first_inside (constant c) i h = differ i
-  first_inside (leaf k n) i h = differ i
-  first_inside (lambda x A e) i h = differ i
-  first_inside (one o a) i h = inside s (p + 1) a (one_first o a h)
-  first_inside (two o a b) i h = inside s (p + 1) a (two_first o a b h)
-  first_inside (if a b c) i h = inside s (p + 1) a (if_first a b c h)
+-- where an expression stands, its tag does
+tagged : (s : List ℕ) (p : ℕ) (e : Expression) → Stands s p (words e) → TagAt s p None → ⊥
+tagged s p e h (inl l) = let i = inside s p e h in omega arith
+tagged s p e h (inr l) = let k = told_known e (top_at s p e h) in omega arith
 
-  -- the second child stands where the first ends
-  module _ (q : ℕ) (ends : EndsAt s (p + 1) q) where
-    first_ends : (o : Two) (a b : Expression) → Formed (two o a b) → Stands s p (words (two o a b))
-        → q ≡ p + 1 + length (words a)
-    unfolding Formed
-    first_ends o a b f h = ends.ends a f.0 (two_first o a b h)
+first_tagged : (s : List ℕ) (p : ℕ) (e : Expression) → value e ≡ false → Stands s p (words e)
+    → TagAt s (p + 1) None → ⊥
+first_tagged s p (constant c) i h n = differ i
+first_tagged s p (leaf k m) i h n = differ i
+first_tagged s p (lambda x A e) i h n = differ i
+first_tagged s p (one o a) i h n = tagged s (p + 1) a (one_first s p o a h) n
+first_tagged s p (two o a b) i h n = tagged s (p + 1) a (two_first s p o a b h) n
+first_tagged s p (if a b c) i h n = tagged s (p + 1) a (if_first s p a b c h) n
 
-    second_at : (u : ℕ) → u ≡ get_or s q 0 → (e : Expression) → Formed e → Stands s p (words e) → SecondTag e u
-    second_at u is (constant c) f h = tt
-    second_at u is (leaf k n) f h = tt
-    second_at u is (lambda x A e) f h = tt
-    second_at u is (one o a) f h = tt
-    second_at u is (two o a b) f h =
-        λ t. is
-        ∙ ap (λ i. get_or s i 0) (first_ends o a b f h)
-        ∙ top_at s (p + 1 + length (words a)) b (two_second o a b h)
-    second_at u is (if a b c) f h = tt
+-- the child that stands at q decides what there is to do at e, if it is no redex
+record Deciding (s : List ℕ) (p : ℕ) (e : Expression) (q : ℕ) : Type 0 where
+  child : Expression
+  stands : Stands s q (words child)
+  second : SecondTag e (top_tag child)
+  stuck : false ≡ is_some (redex e) → value child ≡ true → place e ≡ stuck_at [] e
+  enter : false ≡ is_some (redex e) → value child ≡ false → Enters p e q
 
--- what the first child's tag says of it
-first_tested : (e : Expression) (t : ℕ) (v : Bool) → FirstTag e t
-    → ((a : Expression) → t ≡ top_tag a → value a ≡ v) → FirstValue e v
-first_tested (constant c) t v h f = tt
-first_tested (leaf k n) t v h f = tt
-first_tested (lambda x A e) t v h f = tt
-first_tested (one o a) t v h f = f a h
-first_tested (two o a b) t v h f = f a h
-first_tested (if a b c) t v h f = f a h
+module _ (s : List ℕ) (p q : ℕ) where
+  first_decides : (e : Expression) → value e ≡ false → false ≡ asks_second e → q ≡ p + 1 → Stands s p (words e)
+      → Deciding s p e q
+  first_decides (constant c) i a is h = differ i
+  first_decides (leaf k m) i a is h = differ i
+  first_decides (lambda x A e) i a is h = differ i
+  first_decides (one o b) i a is h =
+      record {
+        child = b;
+        stands = stands_at q (sym is) (one_first s p o b h);
+        second = tt;
+        stuck = λ n. stuck_first (one o b) i n a;
+        enter = λ n v. along (Enters p (one o b)) (sym is) (enter_first p (one o b) i n v);
+      }
+  first_decides (two o b c) i a is h =
+      record {
+        child = b;
+        stands = stands_at q (sym is) (two_first s p o b c h);
+        second = λ t. absurd (rw (sym a) at t);
+        stuck = λ n. stuck_first (two o b c) i n a;
+        enter = λ n v. along (Enters p (two o b c)) (sym is) (enter_first p (two o b c) i n v);
+      }
+  first_decides (if b c d) i a is h =
+      record {
+        child = b;
+        stands = stands_at q (sym is) (if_first s p b c d h);
+        second = tt;
+        stuck = λ n. stuck_first (if b c d) i n a;
+        enter = λ n v. along (Enters p (if b c d)) (sym is) (enter_first p (if b c d) i n v);
+      }
 
--- where the second child is not asked for, any word will do for its tag
-not_asked : (u : ℕ) (e : Expression) → false ≡ asks_second e → SecondTag e u
-not_asked u (constant c) ask = tt
-not_asked u (leaf k n) ask = tt
-not_asked u (lambda x A e) ask = tt
-not_asked u (one o a) ask = tt
-not_asked u (two o a b) ask = λ t. absurd (rw (sym ask) at t)
-not_asked u (if a b c) ask = tt
+  second_decides : (e : Expression) → true ≡ asks_second e → EndsAt s (p + 1) q → Formed e → Stands s p (words e)
+      → Deciding s p e q
+  unfolding Formed
+  second_decides (constant c) a ends f h = differ a
+  second_decides (leaf k m) a ends f h = differ a
+  second_decides (lambda x A e) a ends f h = differ a
+  second_decides (one o b) a ends f h = differ a
+  second_decides (two o b c) a ends f h =
+      let is = ends.ends b f.0 (two_first s p o b c h) in
+      record {
+        child = c;
+        stands = stands_at q (sym is) (two_second s p o b c h);
+        second = λ t. refl;
+        stuck = stuck_second o b c a;
+        enter = λ n v. record {
+          frame = second_of o b;
+          child = c;
+          whole = refl;
+          same = enter_second o b c a n v;
+          at = omega arith;
+        };
+      }
+  second_decides (if b c d) a ends f h = differ a
+
+  decides : (x : Bool) → ChildAt s (p + 1) x q → (e : Expression) → x ≡ asks_second e → value e ≡ false → Formed e
+      → Stands s p (words e) → Deciding s p e q
+  decides true is e a i f h = second_decides e a is f h
+  decides false is e a i f h = first_decides e i a is h
 
 module _ (s : List ℕ) (p : ℕ) where
-  pub look_value : get_or s p 0 ≤ 7 → Looks s p IsValue
-  look_value l = record { forward = tt; finds = λ e f h. place_value e (told_small e (top_at s p e h) l) }
+  pub look_none : TagAt s p None → Looks s p IsValue
+  look_none n = record { forward = tt; finds = λ e f h. absurd (tagged s p e h n) }
 
-  module _ (big : 7 < get_or s p 0) where
-    inner : (e : Expression) → Stands s p (words e) → value e ≡ false
-    inner e h = told_large e (top_at s p e h) big
+  -- a node that stands there, by its tag
+  module _ (node : Tag) (at : TagAt s p (Some node)) (v : Bool) (is : v ≡ leb (word_of node) 7) where
+    told : (e : Expression) → Stands s p (words e) → word_of node ≡ top_tag e
+    told e h = at.1 ∙ top_at s p e h
 
-    pub look_short : length s ≤ p + 1 → Looks s p IsStuck
-    look_short l =
-        record {
-          forward = tt;
-          finds = λ e f h. let i = first_inside s p e (inner e h) h in absurd (omega arith);
-        }
+    valued : (e : Expression) → Stands s p (words e) → v ≡ value e
+    valued e h = is ∙ told_value e (told e h)
 
-    module _ (x y : Bool) (asks : Asks (get_or s p 0) (get_or s (p + 1) 0) x) where
-      asked : (e : Expression) → Stands s p (words e) → x ≡ asks_second e
-      asked e h = asks.answer e (top_at s p e h) (first_at s p e h)
+    pub look_value : v ≡ true → Looks s p IsValue
+    look_value t = record { forward = tt; finds = λ e f h. place_value e (sym (valued e h) ∙ t) }
 
-      -- the first child decides
-      module _ (ask : x ≡ false) (by : RedexBy (get_or s p 0) (get_or s (p + 1) 0) 0 y) where
-        judged : (e : Expression) → Stands s p (words e) → y ≡ is_some (redex e)
-        judged e h =
-            by.answer e (top_at s p e h) (first_at s p e h) (not_asked 0 e (sym ask ∙ asked e h))
+    module _ (big : v ≡ false) where
+      inner : (e : Expression) → Stands s p (words e) → value e ≡ false
+      inner e h = sym (valued e h) ∙ big
 
-        tested : (v : Bool) → ((a : Expression) → get_or s (p + 1) 0 ≡ top_tag a → value a ≡ v) → (e : Expression)
-            → Stands s p (words e) → FirstValue e v
-        tested v t e h = first_tested e (get_or s (p + 1) 0) v (first_at s p e h) t
+      pub look_short : TagAt s (p + 1) None → Looks s p IsStuck
+      look_short n = record { forward = tt; finds = λ e f h. absurd (first_tagged s p e (inner e h) h n) }
 
-        pub look_redex : y ≡ true → Looks s p IsRedex
-        look_redex r = record { forward = tt; finds = λ e f h. place_redex e (sym r ∙ judged e h) }
-
-        pub look_stuck : y ≡ false → get_or s (p + 1) 0 ≤ 7 → Looks s p IsStuck
-        look_stuck r l =
-            record {
-              forward = tt;
-              finds = λ e f h.
-                  stuck_first e (inner e h) (sym r ∙ judged e h) (sym ask ∙ asked e h)
-                  (tested true (λ a t. told_small a t l) e h);
-            }
-
-        pub look_enter : y ≡ false → 7 < get_or s (p + 1) 0 → Looks s p (Enter (p + 1))
-        look_enter r l =
-            record {
-              forward = omega arith;
-              finds = λ e f h.
-                  enter_first p e (inner e h) (sym r ∙ judged e h) (tested false (λ a t. told_large a t l) e h);
-            }
-
-      -- the second child decides
+      -- and by the tag of the child that decides
       module _
-          (ask : x ≡ true) (q : ℕ) (ends : EndsAt s (p + 1) q) (u : ℕ) (is : u ≡ get_or s q 0)
-          (by : RedexBy (get_or s p 0) (get_or s (p + 1) 0) u y)
+          (first : Tag) (next : TagAt s (p + 1) (Some first)) (q : ℕ)
+          (d : Decides s (word_of node) (word_of first) (p + 1) q)
         where
-          judged₂ : (e : Expression) → Formed e → Stands s p (words e) → y ≡ is_some (redex e)
-          judged₂ e f h = by.answer e (top_at s p e h) (first_at s p e h) (second_at s p q ends u is e f h)
+          deciding : (e : Expression) → Formed e → Stands s p (words e) → Deciding s p e q
+          deciding e f h =
+              let a = d.told.answer e (told e h) (first_at s p (word_of first) next.1 e h) in
+              decides s p q d.asks d.child e a (inner e h) f h
 
-          decided : (e : Expression) → Formed e → Stands s p (words e) → false ≡ is_some (redex e) → true ≡ asks_second e
-              → (u ≤ 7 → place e ≡ stuck_at [] e) × (7 < u → Enters p e q)
-          decided (constant c) f h n a = differ a
-          decided (leaf k m) f h n a = differ a
-          decided (lambda z A e) f h n a = differ a
-          decided (one o b) f h n a = differ a
-          decided (two o b c) f h n a =
-              let t : u ≡ top_tag c = second_at s p q ends u is (two o b c) f h (rw (sym a) tt) in
-              let e = first_ends s p q ends o b c f h in (
-                λ l. stuck_second o b c a n (told_small c t l),
-                λ l. record {
-                  frame = second_of o b;
-                  child = c;
-                  whole = refl;
-                  same = enter_second o b c a n (told_large c t l);
-                  at = omega arith;
-                },
-              )
-          decided (if b c d) f h n a = differ a
-
-          pub look_redex₂ : y ≡ true → Looks s p IsRedex
-          look_redex₂ r = record { forward = tt; finds = λ e f h. place_redex e (sym r ∙ judged₂ e f h) }
-
-          pub look_stuck₂ : y ≡ false → u ≤ 7 → Looks s p IsStuck
-          look_stuck₂ r l =
+          pub look_lost : TagAt s q None → Looks s p IsStuck
+          look_lost n =
               record {
                 forward = tt;
-                finds = λ e f h. (decided e f h (sym r ∙ judged₂ e f h) (sym ask ∙ asked e h)).0 l;
+                finds = λ e f h. let k = deciding e f h in absurd (tagged s q k.child k.stands n);
               }
 
-          pub look_enter₂ : p + 1 < length s → y ≡ false → 7 < u → Looks s p (Enter q)
-          look_enter₂ k r l =
-              let low = ends.low k in
-              record {
-                forward = omega arith;
-                finds = λ e f h. (decided e f h (sym r ∙ judged₂ e f h) (sym ask ∙ asked e h)).1 l;
-              }
+          module _
+              (last : Tag) (there : TagAt s q (Some last)) (y : Bool)
+              (by : RedexBy (word_of node) (word_of first) (word_of last) y)
+            where
+              judged : (e : Expression) → Formed e → Stands s p (words e) → y ≡ is_some (redex e)
+              judged e f h =
+                  let k = deciding e f h in
+                  let is = there.1 ∙ top_at s q k.child k.stands in
+                  by.answer e (told e h) (first_at s p (word_of first) next.1 e h)
+                  (along (SecondTag e) (sym is) k.second)
+
+              pub look_redex : y ≡ true → Looks s p IsRedex
+              look_redex r = record { forward = tt; finds = λ e f h. place_redex e (sym r ∙ judged e f h) }
+
+              module _ (r : y ≡ false) (w : Bool) (test : w ≡ leb (word_of last) 7) where
+                child_value : (c : Expression) → Stands s q (words c) → w ≡ value c
+                child_value c h = test ∙ told_value c (there.1 ∙ top_at s q c h)
+
+                pub look_stuck : w ≡ true → Looks s p IsStuck
+                look_stuck t =
+                    record {
+                      forward = tt;
+                      finds = λ e f h.
+                          let k = deciding e f h in
+                          k.stuck (sym r ∙ judged e f h) (sym (child_value k.child k.stands) ∙ t);
+                    }
+
+                pub look_enter : w ≡ false → Looks s p (Enter q)
+                look_enter t =
+                    record {
+                      forward = (at.0, further d.asks d.child);
+                      finds = λ e f h.
+                          let k = deciding e f h in
+                          k.enter (sym r ∙ judged e f h) (sym (child_value k.child k.stands) ∙ t);
+                    }
+                  where
+                    further : (x : Bool) → ChildAt s (p + 1) x q → p < q
+                    further true ends = let l = ends.low next.0 in omega arith
+                    further false is = omega arith

@@ -1,5 +1,5 @@
 -- The loop of the search: what stands at p has the same place of work as the whole.
-use Prim.Native.Nat.{ℕ, ◌+◌, ◌-◌, ◌<◌, ◌≤◌}
+use Prim.Native.Nat.{ℕ, ◌+◌, ◌-◌, ◌<◌}
 use mathlib.Core.Path.{subst as along, ◌≡◌, refl, sym, ap, ◌∙◌}
 use mathlib.Core.List.{List, [], ◌++◌}
 use native.Mathlib.Omega.{arith}
@@ -16,7 +16,6 @@ use Rattle.place.specs.declared.Spot.{Spot}
 use Rattle.place.specs.declared.Spot.TheVariants.{Value, RedexAt, StuckAt}
 use Rattle.place.specs.Search.{leading, trailing, prefix, Finds, Forward, Looks, spot_of, Placed}
 use Rattle.place.proofs.Contexts.{words_fill, formed_child}
-use Rattle.place.proofs.Looking.{inside}
 
 pub record Seen (s : List ℕ) (p : ℕ) (r : Spot) : Type 0 where
   pub tree : Expression
@@ -42,13 +41,6 @@ unfolding prefix
 spot_here p = omega arith
 
 module _ (s : List ℕ) (at p : ℕ) (g : Going s at p) where
-  pub out : length s ≤ p → Placed s at Value
-  out l =
-      record {
-        answer = λ e f h.
-            let v = g.sees e f h in let i = inside s p v.tree v.stands in absurd (omega arith);
-      }
-
   module _ (m : Move) (l : Looks s p m) where
     finds : (r : Move) → m ≡ r → (e : Expression) → Formed e → Stands s p (words e) → Finds p e r
     finds r z e f h = along (Finds p e) z (l.finds e f h)
@@ -101,6 +93,5 @@ module _ (s : List ℕ) (at p : ℕ) (g : Going s at p) where
         }
 
 -- each turn goes forward
-pub falls : (s : List ℕ) (p q : ℕ) (m : Move) → Looks s p m → m ≡ Enter q → p < length s
-    → length s - q < length s - p
-falls s p q m k e h = let f : p < q = along (Forward p) e k.forward in omega arith
+pub falls : (s : List ℕ) (p q : ℕ) (m : Move) → Looks s p m → m ≡ Enter q → length s - q < length s - p
+falls s p q m k e = let f : (p < length s) × (p < q) = along (Forward s p) e k.forward in omega arith

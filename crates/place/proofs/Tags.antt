@@ -2,9 +2,11 @@
 use Prim.Native.Nat.{ℕ, ◌<◌, ◌≤◌}
 use mathlib.Core.Path.{◌≡◌, refl, sym, ap, ◌∙◌}
 use mathlib.Core.Bool.{Bool, true, false, cond, ◌&&◌, ◌||◌}
+use mathlib.Core.Logic.{◌⊎◌, inl, inr}
+use native.Mathlib.Omega.{arith}
 use mathlib.Core.Option.{Option, none, some}
 use lib.Dec.{T, eqb, leb, ltb}
-use borrow.Author.Tests.{le-leb, lt-leb, le-ltb, lt-ltb, ne_eqb}
+use borrow.Author.Tests.{leb-true, le-leb, lt-leb}
 use Rattle.calculus.specs.Options.{◌▸◌}
 use Rattle.calculus.specs.Expressions.{unit, bool, number, variable, location, revision, ref, read, fork, join}
 use Rattle.calculus.specs.Expressions.{Arithmetic, add, subtract, less, apply, assign, arithmetic}
@@ -15,10 +17,14 @@ use Rattle.calculus.specs.Redexes.{Redex, applying, choosing, making, reading, a
 use Rattle.calculus.specs.Redexes.{as_value, as_leaf, as_lambda, as_truth, redex}
 use Rattle.calculus.specs.Stores.{plain}
 use Rattle.calculus.specs.Places.{present}
+use Rattle.words.specs.declared.tags.Tag.{Tag}
+use Rattle.words.specs.declared.tags.Tag.TheVariants.{Add, Subtract, Less}
+use Rattle.words.specs.Tags.{word_of}
 use Rattle.place.specs.Search.{top_tag, asks_second, FirstTag, SecondTag, is_some, Asks, RedexBy}
 
 -- what a tag tells of its expression
 record Told : Type 0 where
+  known : Bool
   value : Bool
   number : Bool
   location : Bool
@@ -29,6 +35,7 @@ record Told : Type 0 where
 abbrev told_by : ℕ → Told
 told_by g =
     record {
+      known = leb g 17;
       value = leb g 7;
       number = eqb g 3;
       location = eqb g 5;
@@ -40,6 +47,7 @@ told_by g =
 abbrev told : Expression → Told
 told e =
     record {
+      known = true;
       value = value e;
       number = present (as_leaf number e);
       location = present (as_leaf location e);
@@ -70,7 +78,7 @@ tells (two (arithmetic less) a b) = refl
 tells (if a b c) = refl
 
 module _ (e : Expression) {t : ℕ} (h : t ≡ top_tag e) where
-  told_value : leb t 7 ≡ value e
+  pub told_value : leb t 7 ≡ value e
   told_value = ap (λ x. leb x 7) h ∙ ap (λ x. x.value) (tells e)
 
   told_number : eqb t 3 ≡ present (as_leaf number e)
@@ -88,6 +96,10 @@ module _ (e : Expression) {t : ℕ} (h : t ≡ top_tag e) where
   told_truth : (eqb t 1 || eqb t 2) ≡ is_some (as_truth e)
   told_truth = ap (λ x. eqb x 1 || eqb x 2) h ∙ ap (λ x. x.truth) (tells e)
 
+  pub told_known : t < 18
+  told_known =
+      let l = leb-true t 17 (ap (λ x. leb x 17) h ∙ ap (λ x. x.known) (tells e)) in omega arith
+
   pub told_small : t ≤ 7 → value e ≡ true
   told_small l = sym told_value ∙ le-leb t 7 l
 
@@ -95,7 +107,7 @@ module _ (e : Expression) {t : ℕ} (h : t ≡ top_tag e) where
   told_large l = sym told_value ∙ lt-leb t 7 l
 
 -- may the second child be entered?
-abbrev asks_by : ℕ → ℕ → Bool
+abbrev pub asks_by : ℕ → ℕ → Bool
 asks_by g t = cond (eqb g 8) (leb t 7) (cond (eqb g 12) (eqb t 5) (ltb 14 g && eqb t 3))
 
 asks_told : (e : Expression) (t : ℕ) → FirstTag e t → asks_by (top_tag e) t ≡ asks_second e
@@ -119,25 +131,21 @@ asks_told (two (arithmetic subtract) a b) t h = told_number a h
 asks_told (two (arithmetic less) a b) t h = told_number a h
 asks_told (if a b c) t h = refl
 
-module _ (g t : ℕ) where
-  asks_by_lem : {r : Bool} → r ≡ asks_by g t → Asks g t r
-  asks_by_lem q = record { answer = λ e h f. q ∙ ap (λ x. asks_by x t) h ∙ asks_told e t f }
+pub asks_by_lem : (g t : ℕ) {r : Bool} → r ≡ asks_by g t → Asks g t r
+asks_by_lem g t q = record { answer = λ e h f. q ∙ ap (λ x. asks_by x t) h ∙ asks_told e t f }
 
-  pub asks_apply : g ≡ 8 → Asks g t (leb t 7)
-  asks_apply e = asks_by_lem (rw e)
-
-  pub asks_assign : g ≡ 12 → Asks g t (eqb t 5)
-  asks_assign e = asks_by_lem (rw e)
-
-  module _ (a : g ≡ 8 → ⊥) (b : g ≡ 12 → ⊥) where
-    pub asks_arithmetic : 14 < g → Asks g t (eqb t 3)
-    asks_arithmetic l = asks_by_lem (rw (ne_eqb g 8 a, ne_eqb g 12 b, lt-ltb 14 g l))
-
-    pub asks_never : g ≤ 14 → Asks g t (ltb 14 g)
-    asks_never l = asks_by_lem (rw (ne_eqb g 8 a, ne_eqb g 12 b, le-ltb 14 g l))
+-- the three arithmetic tags tell the same
+module _ (g : Tag) (o : (g ≡ Add) ⊎ ((g ≡ Subtract) ⊎ (g ≡ Less))) where
+  pub asks_arithmetic : (t : ℕ) {r : Bool} → r ≡ asks_by 15 t → Asks (word_of g) t r
+  asks_arithmetic t q = asks_by_lem (word_of g) t (q ∙ same o)
+    where
+      same : (g ≡ Add) ⊎ ((g ≡ Subtract) ⊎ (g ≡ Less)) → asks_by 15 t ≡ asks_by (word_of g) t
+      same (inl e) = rw e refl
+      same (inr (inl e)) = rw e refl
+      same (inr (inr e)) = rw e refl
 
 -- is the node a redex?
-abbrev redex_by : ℕ → ℕ → ℕ → Bool
+abbrev pub redex_by : ℕ → ℕ → ℕ → Bool
 redex_by g t u =
     cond (eqb g 8) (eqb t 7 && leb u 7)
     (cond (eqb g 9) (eqb t 1 || eqb t 2)
@@ -218,54 +226,14 @@ redex_told (two (arithmetic subtract) a b) t u h k = arithmetic_told t u a b h s
 redex_told (two (arithmetic less) a b) t u h k = arithmetic_told t u a b h less k
 redex_told (if a b c) t u h k = told_truth a h ∙ by_truth (as_truth a) (λ t. choosing t b c)
 
-module _ (g t u : ℕ) where
-  redex_by_lem : {r : Bool} → r ≡ redex_by g t u → RedexBy g t u r
-  redex_by_lem q = record { answer = λ e h f k. q ∙ ap (λ x. redex_by x t u) h ∙ redex_told e t u f k }
+pub redex_by_lem : (g t u : ℕ) {r : Bool} → r ≡ redex_by g t u → RedexBy g t u r
+redex_by_lem g t u q = record { answer = λ e h f k. q ∙ ap (λ x. redex_by x t u) h ∙ redex_told e t u f k }
 
-  pub redex_apply : g ≡ 8 → t ≡ 7 → RedexBy g t u (leb u 7)
-  redex_apply e f = redex_by_lem (rw (e, f))
-
-  pub redex_no_apply : g ≡ 8 → (t ≡ 7 → ⊥) → RedexBy g t u (eqb t 7)
-  redex_no_apply e f = redex_by_lem (rw (e, ne_eqb t 7 f))
-
-  pub redex_true : g ≡ 9 → t ≡ 1 → RedexBy g t u (eqb t 1)
-  redex_true e f = redex_by_lem (rw (e, f))
-
-  pub redex_false : g ≡ 9 → (t ≡ 1 → ⊥) → RedexBy g t u (eqb t 2)
-  redex_false e f = redex_by_lem (rw (e, ne_eqb t 1 f))
-
-  pub redex_ref : g ≡ 10 → RedexBy g t u (leb t 7)
-  redex_ref e = redex_by_lem (rw e)
-
-  pub redex_read : g ≡ 11 → RedexBy g t u (eqb t 5)
-  redex_read e = redex_by_lem (rw e)
-
-  pub redex_assign : g ≡ 12 → t ≡ 5 → RedexBy g t u (leb u 7)
-  redex_assign e f = redex_by_lem (rw (e, f))
-
-  pub redex_no_assign : g ≡ 12 → (t ≡ 5 → ⊥) → RedexBy g t u (eqb t 5)
-  redex_no_assign e f = redex_by_lem (rw (e, ne_eqb t 5 f))
-
-  pub redex_fork : g ≡ 13 → RedexBy g t u true
-  redex_fork e = redex_by_lem (rw e)
-
-  pub redex_join : g ≡ 14 → RedexBy g t u (eqb t 6)
-  redex_join e = redex_by_lem (rw e)
-
-  -- past the tags that the code names
-  module _
-      (a : g ≡ 8 → ⊥) (b : g ≡ 9 → ⊥) (c : g ≡ 10 → ⊥) (d : g ≡ 11 → ⊥) (e : g ≡ 12 → ⊥) (f : g ≡ 13 → ⊥)
-      (h : g ≡ 14 → ⊥)
-    where
-      other : redex_by g t u ≡ (ltb 14 g && (eqb t 3 && eqb u 3))
-      other =
-          rw (ne_eqb g 8 a, ne_eqb g 9 b, ne_eqb g 10 c, ne_eqb g 11 d, ne_eqb g 12 e, ne_eqb g 13 f, ne_eqb g 14 h)
-
-      pub redex_arithmetic : 14 < g → t ≡ 3 → RedexBy g t u (eqb u 3)
-      redex_arithmetic l k = redex_by_lem (sym (other ∙ rw (lt-ltb 14 g l, k) refl))
-
-      pub redex_no_arithmetic : 14 < g → (t ≡ 3 → ⊥) → RedexBy g t u (eqb t 3)
-      redex_no_arithmetic l k = redex_by_lem (sym (other ∙ rw (lt-ltb 14 g l, ne_eqb t 3 k) refl))
-
-      pub redex_never : g ≤ 14 → RedexBy g t u (ltb 14 g)
-      redex_never l = redex_by_lem (sym (other ∙ rw (le-ltb 14 g l) refl))
+pub redex_arithmetic : (g : Tag) → (g ≡ Add) ⊎ ((g ≡ Subtract) ⊎ (g ≡ Less)) → (t u : ℕ) {r : Bool}
+    → r ≡ redex_by 15 t u → RedexBy (word_of g) t u r
+redex_arithmetic g o t u q = redex_by_lem (word_of g) t u (q ∙ same o)
+  where
+    same : (g ≡ Add) ⊎ ((g ≡ Subtract) ⊎ (g ≡ Less)) → redex_by 15 t u ≡ redex_by (word_of g) t u
+    same (inl e) = rw e refl
+    same (inr (inl e)) = rw e refl
+    same (inr (inr e)) = rw e refl

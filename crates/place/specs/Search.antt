@@ -1,6 +1,7 @@
 -- The search for the place of work on words (01, "One step": "found from the top"), against `place` on trees.
-use Rattle.std.specs.Prelude.{ℕ, ◌+◌, ◌<◌, ◌≡◌, Bool, true, false, List, [], ◌∷◌, ◌++◌, length, get_or, T}
-use Rattle.std.proofs.Math.Option.{Option, none, some}
+use Rattle.std.specs.Prelude.{ℕ, ◌+◌, ◌<◌, ◌≤◌, ◌≡◌, ◌⊎◌, Bool, true, false, List, [], ◌∷◌, ◌++◌, length, get_or, T}
+use Rattle.std.specs.Prelude.{Option, Some, None}
+use Rattle.std.proofs.Math.Option.{Option as Maybe, none, some}
 use Rattle.calculus.specs.Expressions.{Expression, constant, leaf, lambda, one, two, if}
 use Rattle.calculus.specs.Tags.{one_tag, two_tag, if_tag, tag_word}
 use Rattle.calculus.specs.Words.{words}
@@ -8,7 +9,9 @@ use Rattle.calculus.specs.Formed.{Formed}
 use Rattle.calculus.specs.Redexes.{Redex, redex}
 use Rattle.calculus.specs.Places.{Frame, only, first_of, second_of, condition, fill, Context, enters_second}
 use Rattle.calculus.specs.Places.{Place, is_value, works_at, stuck_at, under, place}
-use Rattle.image.specs.Standing.{Stands}
+use Rattle.image.specs.Standing.{Stands, EndsAt}
+use Rattle.words.specs.declared.tags.Tag.{Tag}
+use Rattle.words.specs.Tags.{word_of}
 use Rattle.place.specs.declared.Move.{Move}
 use Rattle.place.specs.declared.Move.TheVariants.{Enter, IsValue, IsRedex, IsStuck}
 use Rattle.place.specs.declared.Spot.{Spot}
@@ -44,9 +47,14 @@ SecondTag (one o a) u = Unit {0}
 SecondTag (two o a b) u = T (enters_second o a) → u ≡ top_tag b
 SecondTag (if a b c) u = Unit {0}
 
-abbrev pub is_some : {A : Type 0} → Option A → Bool
+abbrev pub is_some : {A : Type 0} → Maybe A → Bool
 is_some none = false
 is_some (some a) = true
+
+-- the tag that stands at `at`, and none past the end and of a word past the tags
+abbrev pub TagAt : List ℕ → ℕ → Option Tag → Type 0
+TagAt s at (Some t) = (at < length s) × (word_of t ≡ get_or s at 0)
+TagAt s at None = (length s ≤ at) ⊎ (18 ≤ get_or s at 0)
 
 -- what the tags say of every expression that has them
 pub record Asks (g t : ℕ) (r : Bool) : Type 0 where
@@ -54,6 +62,17 @@ pub record Asks (g t : ℕ) (r : Bool) : Type 0 where
 
 pub record RedexBy (g t u : ℕ) (r : Bool) : Type 0 where
   pub answer : (e : Expression) → g ≡ top_tag e → FirstTag e t → SecondTag e u → r ≡ is_some (redex e)
+
+-- where a child stands, the first at `at` or the second
+abbrev pub ChildAt : List ℕ → ℕ → Bool → ℕ → Type 0
+ChildAt s at true r = EndsAt s at r
+ChildAt s at false r = (r ≡ at)
+
+-- the child whose tag decides, of a node whose tag is g and whose first child's, which stands at `at`, is t
+pub record Decides (s : List ℕ) (g t at r : ℕ) : Type 0 where
+  pub asks : Bool
+  pub told : Asks g t asks
+  pub child : ChildAt s at asks r
 
 -- a frame's words on either side of its hole; a context's
 abbrev pub leading : Frame → List ℕ
@@ -91,14 +110,15 @@ Finds p e IsValue = place e ≡ is_value
 Finds p e IsRedex = (R : Redex) × (place e ≡ works_at [] R)
 Finds p e IsStuck = place e ≡ stuck_at [] e
 
-abbrev pub Forward : ℕ → Move → Type 0
-Forward p (Enter q) = (p < q)
-Forward p IsValue = Unit {0}
-Forward p IsRedex = Unit {0}
-Forward p IsStuck = Unit {0}
+-- a child that is entered stands further on, after a word
+abbrev pub Forward : List ℕ → ℕ → Move → Type 0
+Forward s p (Enter q) = (p < length s) × (p < q)
+Forward s p IsValue = Unit {0}
+Forward s p IsRedex = Unit {0}
+Forward s p IsStuck = Unit {0}
 
 pub record Looks (s : List ℕ) (p : ℕ) (r : Move) : Type 0 where
-  pub forward : Forward p r
+  pub forward : Forward s p r
   pub finds : (e : Expression) → Formed e → Stands s p (words e) → Finds p e r
 
 -- the answer for a place in an expression whose words start at p

@@ -1,42 +1,73 @@
 // The place of work in an expression's words: a loop from the top that keeps only a position.
 #![tactic(auto)]
 
-ghost use Rattle.std.specs.Prelude.{◌<◌, length};
-ghost use Rattle.place.specs.Search.{Asks, RedexBy, Looks, Placed};
+ghost use Rattle.std.specs.Prelude.{◌≡◌, ◌+◌, ◌<◌, leb, length};
+ghost use Rattle.words.specs.Tags.{word_of};
+ghost use Rattle.place.specs.Search.{TagAt, Asks, Decides, RedexBy, Looks, Placed};
 
-use image::nodes::{past, word_at};
+use image::nodes::past;
+use words::tags::Tag;
+
+// The tag that stands at `at`, if one does.
+fn tag_at(s: &[u16], at: usize) -> Option<Tag>
+    ensures { TagAt s.now at result }
+{
+    Tag::of(*s.get(at)?)
+}
+
+// Is it the tag of a value? Those come first, up to the lambda's.
+fn is_value(tag: Tag) -> bool
+    ensures { result ≡ leb (word_of tag) 7 }
+{
+    tag as u16 <= Tag::Lambda as u16
+}
 
 // May the second child be entered? By the node's tag and its first child's: apply after a value, assign after a
 // location, add, subtract and less after a number.
-fn asks_second(tag: u16, t: u16) -> bool
-    ensures { Asks tag t result }
+#[tactic(auto, using(crate::proofs::Tags::asks_by_lem))]
+fn asks_second(node: Tag, first: Tag) -> bool
+    ensures { Asks (word_of node) (word_of first) result }
 {
-    match tag {
-        8 => t <= 7,
-        12 => t == 5,
-        _ => 14 < tag && t == 3,
+    match node {
+        Tag::Apply => is_value(first),
+        Tag::Assign => first == Tag::Location,
+        Tag::Add | Tag::Subtract | Tag::Less => first == Tag::Number,
+        _ => false,
     }
 }
 
-// Is the node a redex? By its tag and its first two children's; u counts only where the second child may be entered.
-// In the order of the tags: apply, if, ref, read, assign, fork, join, and add, subtract and less.
-fn is_redex(tag: u16, t: u16, u: u16) -> bool
-    ensures { RedexBy tag t u result }
+// Is the node a redex? By its tag and its first two children's; the second's counts only where it may be entered.
+#[tactic(auto, using(crate::proofs::Tags::redex_by_lem))]
+fn is_redex(node: Tag, first: Tag, second: Tag) -> bool
+    ensures { RedexBy (word_of node) (word_of first) (word_of second) result }
 {
-    match tag {
-        8 => t == 7 && u <= 7,
-        9 => t == 1 || t == 2,
-        10 => t <= 7,
-        11 => t == 5,
-        12 => t == 5 && u <= 7,
-        13 => true,
-        14 => t == 6,
-        _ => 14 < tag && (t == 3 && u == 3),
+    match node {
+        Tag::Apply => first == Tag::Lambda && is_value(second),
+        Tag::If => first == Tag::False || first == Tag::True,
+        Tag::Ref => is_value(first),
+        Tag::Read => first == Tag::Location,
+        Tag::Assign => first == Tag::Location && is_value(second),
+        Tag::Fork => true,
+        Tag::Join => first == Tag::Revision,
+        Tag::Add | Tag::Subtract | Tag::Less => first == Tag::Number && second == Tag::Number,
+        _ => false,
+    }
+}
+
+// Of a node whose first child stands at `at`, where the child stands whose tag decides: the second child where it may
+// be entered, and else the first.
+fn deciding_child(s: &[u16], node: Tag, first: Tag, at: usize) -> usize
+    ensures { Decides s.now (word_of node) (word_of first) at result }
+{
+    if asks_second(node, first) {
+        past(s, at)
+    } else {
+        at
     }
 }
 
 // What there is to do at a node: the child that starts there is entered, or the search ends.
-#[derive(Drop)]
+#[derive(Clone, Copy, PartialEq, Eq, Debug)]
 pub enum Move {
     Enter(usize),
     IsValue,
@@ -45,40 +76,32 @@ pub enum Move {
 }
 
 fn look(s: &[u16], p: usize) -> Move
-    requires { p < length s.now }
     ensures { Looks s.now p result }
 {
-    let tag = s[p];
-    if tag <= 7 {
+    let Some(node) = tag_at(s, p) else {
+        return Move::IsValue;
+    };
+    if is_value(node) {
         return Move::IsValue;
     }
-    let a = p + 1;
-    if s.len() <= a {
+    let Some(first) = tag_at(s, p + 1) else {
         return Move::IsStuck;
-    }
-    let t = s[a];
-    if asks_second(tag, t) {
-        let b = past(s, a);
-        let u = word_at(s, b);
-        if is_redex(tag, t, u) {
-            return Move::IsRedex;
-        }
-        if u <= 7 {
-            return Move::IsStuck;
-        }
-        return Move::Enter(b);
-    }
-    if is_redex(tag, t, 0) {
-        return Move::IsRedex;
-    }
-    if t <= 7 {
+    };
+    let child = deciding_child(s, node, first, p + 1);
+    let Some(last) = tag_at(s, child) else {
         return Move::IsStuck;
+    };
+    if is_redex(node, first, last) {
+        Move::IsRedex
+    } else if is_value(last) {
+        Move::IsStuck
+    } else {
+        Move::Enter(child)
     }
-    Move::Enter(a)
 }
 
 // Where the work of an expression is: nowhere in a value, else at a redex, or at the node where no rule goes on.
-#[derive(Drop)]
+#[derive(Clone, Copy, PartialEq, Eq, Debug)]
 pub enum Spot {
     Value,
     RedexAt(usize),
@@ -91,22 +114,13 @@ pub fn place_of_work(s: &[u16], at: usize) -> Spot
 {
     let mut p = at;
     loop {
-        if s.len() <= p {
-            return Spot::Value;
-        }
         match look(s, p) {
             Move::Enter(q) => {
                 p = q;
             }
-            Move::IsValue => {
-                return Spot::Value;
-            }
-            Move::IsRedex => {
-                return Spot::RedexAt(p);
-            }
-            Move::IsStuck => {
-                return Spot::StuckAt(p);
-            }
+            Move::IsValue => return Spot::Value,
+            Move::IsRedex => return Spot::RedexAt(p),
+            Move::IsStuck => return Spot::StuckAt(p),
         }
     }
 }

@@ -1,28 +1,28 @@
 -- `look` meets its contract: a law for each way through it.
-use Rattle.place.proofs.Looking.{look_value, look_short, look_redex, look_stuck, look_enter}
-use Rattle.place.proofs.Looking.{look_redex₂, look_stuck₂, look_enter₂}
+use Rattle.place.proofs.Looking.{look_none, look_value, look_short, look_lost, look_redex, look_stuck, look_enter}
 use Rattle.place.proofs.look.Goals as goal
 
-pub returns-then-tag-le7 : goal.returns-then-tag-le7
-returns-then-tag-le7 c = search look_value
+pub returns-in_default : goal.returns-in_default
+returns-in_default c = search (look_none, c.in_default.ensures)
 
-pub returns-then-s-a : goal.returns-then-s-a
-returns-then-s-a c = search look_short
+pub returns-then-is_value : goal.returns-then-is_value
+returns-then-is_value c = search (look_value, c.in-Some.ensures)
+
+pub returns-in_default-tag_at : goal.returns-in_default-tag_at
+returns-in_default-tag_at c = search (look_short, c.in-Some.ensures, c.in_default-tag_at.ensures)
+
+pub returns-in_default-tag_at-2 : goal.returns-in_default-tag_at-2
+returns-in_default-tag_at-2 c =
+    search (look_lost, c.in-Some.ensures, c.in-Some-tag_at.ensures, c.in_default-tag_at-2.ensures)
 
 pub returns-then-is_redex : goal.returns-then-is_redex
-returns-then-is_redex c = search look_redex₂
+returns-then-is_redex c =
+    search (look_redex, c.in-Some.ensures, c.in-Some-tag_at.ensures, c.in-Some-tag_at-2.ensures)
 
-pub returns-then-u-le7 : goal.returns-then-u-le7
-returns-then-u-le7 c = search look_stuck₂
+pub returns-then-is_value-2 : goal.returns-then-is_value-2
+returns-then-is_value-2 c =
+    search (look_stuck, c.in-Some.ensures, c.in-Some-tag_at.ensures, c.in-Some-tag_at-2.ensures)
 
-pub returns-then-asks_second : goal.returns-then-asks_second
-returns-then-asks_second c = search look_enter₂
-
-pub returns-then-is_redex-2 : goal.returns-then-is_redex-2
-returns-then-is_redex-2 c = search look_redex
-
-pub returns-then-t-le7 : goal.returns-then-t-le7
-returns-then-t-le7 c = search look_stuck
-
-pub returns : goal.returns
-returns c = search look_enter
+pub returns-else-is_value-2 : goal.returns-else-is_value-2
+returns-else-is_value-2 c =
+    search (look_enter, c.in-Some.ensures, c.in-Some-tag_at.ensures, c.in-Some-tag_at-2.ensures)

@@ -1,12 +1,9 @@
 -- `place_of_work` meets its contract: each turn goes forward, and the measure is what is left.
-use Rattle.place.proofs.Searching.{out, enter, stop_redex, stop_stuck}
+use Rattle.place.proofs.Searching.{enter, stop_redex, stop_stuck}
 use Rattle.place.proofs.place_of_work.Goals as goal
 
-pub returns-then-s-p : goal.returns-then-s-p
-returns-then-s-p c = search out
-
-pub loop-p-preserved : goal.loop-p-preserved
-loop-p-preserved c = search enter
+pub loop-q-preserved : goal.loop-q-preserved
+loop-q-preserved c = search enter
 
 pub returns-in-IsRedex : goal.returns-in-IsRedex
 returns-in-IsRedex c = search stop_redex

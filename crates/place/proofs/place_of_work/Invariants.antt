@@ -3,8 +3,8 @@ use Rattle.std.proofs.Common.{length, ◌-◌}
 use Rattle.place.proofs.Searching.{Going}
 use Rattle.place.proofs.place_of_work.Given as goal
 
-abbrev pub invariant-loop-p : goal.invariant-loop-p
-invariant-loop-p l = Going l.s l.at l.p
+abbrev pub invariant-loop-q : goal.invariant-loop-q
+invariant-loop-q l = Going l.s l.at l.p
 
-abbrev pub decreases-loop-p : goal.decreases-loop-p
-decreases-loop-p l = length l.s - l.p
+abbrev pub decreases-loop-q : goal.decreases-loop-q
+decreases-loop-q l = length l.s - l.p
