@@ -1,6 +1,8 @@
 -- An expression as its head (tag, own word, type) and its children, in words and in substitution; and the head read.
 use Prim.Native.Nat.{ℕ, ◌+◌, ◌<◌, ◌≤◌}
 use mathlib.Core.Path.{◌≡◌, refl, sym, ap, ◌∙◌}
+use mathlib.Core.Bool.{true, false}
+use Rattle.std.specs.Prelude.{Some, None}
 use mathlib.Core.List.{List, [], ◌∷◌, ◌++◌, append-nil}
 use mathlib.Core.Option.{some}
 use native.Mathlib.Omega.{arith}
@@ -16,9 +18,9 @@ use Rattle.calculus.specs.Reading.{tag_of}
 use Rattle.calculus.specs.Substitution.{substituted}
 use Rattle.calculus.proofs.Options.{some_inj}
 use Rattle.calculus.proofs.Reading.{tag_of_tag_word}
-use Rattle.words.specs.declared.walk.Front.TheVariants.{Is}
-use Rattle.words.specs.Rows.{tag_row, row_of}
-use Rattle.words.specs.Walks.{front_of, types_end}
+use Rattle.words.specs.declared.table.Kind.TheVariants.{Expression as ExpressionKind}
+use Rattle.words.specs.Rows.{tag_row}
+use Rattle.words.specs.Walks.{front_of, front, types_end, is_kind}
 use Rattle.words.specs.Names.{all_words, AllFormed}
 use Rattle.words.proofs.Fronts.{front_bare, front_fine}
 use Rattle.words.proofs.Ends.{end_type_words}
@@ -26,7 +28,7 @@ use Rattle.words.proofs.Pending.{one_type_lem}
 use Rattle.words.proofs.Standing.{head_tag, below, row_of_tag}
 use Rattle.image.specs.Standing.{Stands}
 use Rattle.image.proofs.Standing.{headed, stands_left}
-use Rattle.substitute.specs.Substitutes.{all_substituted}
+use Rattle.substitute.specs.Substitutes.{all_substituted, Named}
 
 -- the words before the children
 abbrev pub head : Expression → List ℕ
@@ -113,14 +115,14 @@ first_word (if a b c) h = (headed h).is
 
 -- a tree that is neither by its words
 pub other : (s : List ℕ) (at x : ℕ) (e : Expression) → Stands s at (words e)
-    → (get_or s (at + 1) 0 ≡ x → get_or s at 0 ≡ 4 → ⊥) → (get_or s (at + 1) 0 ≡ x → get_or s at 0 ≡ 7 → ⊥) → Other x e
+    → Named s at 4 x false → Named s at 7 x false → Other x e
 unfolding words
 other s at x (constant c) h f g = tt
 other s at x (leaf number n) h f g = tt
-other s at x (leaf variable n) h f g = λ e. f ((headed (headed h).more).is ∙ e) (headed h).is
+other s at x (leaf variable n) h f g = λ e. f (headed h).is ((headed (headed h).more).is ∙ e)
 other s at x (leaf location n) h f g = tt
 other s at x (leaf revision n) h f g = tt
-other s at x (lambda y A e) h f g = λ e. g ((headed (headed h).more).is ∙ e) (headed h).is
+other s at x (lambda y A e) h f g = λ e. g (headed h).is ((headed (headed h).more).is ∙ e)
 other s at x (one o e) h f g = tt
 other s at x (two o a b) h f g = tt
 other s at x (if a b c) h f g = tt
@@ -144,7 +146,7 @@ lambda_tagged (if a b c) h =
     let t = tag_same if_tag lambda_tag h in absurd (let z : ◌≡◌ {A = ℕ} 0 1 = cc in omega arith)
 
 -- the front and the types of a tree that stands at `at`
-tag_kind : (t : Tag) → (tag_row t).kind ≡ 1
+tag_kind : (t : Tag) → is_kind (tag_row t).kind ExpressionKind ≡ true
 tag_kind (constant_tag c) = refl
 tag_kind (leaf_tag k) = refl
 tag_kind lambda_tag = refl
@@ -152,23 +154,23 @@ tag_kind (one_tag o) = refl
 tag_kind (two_tag o) = refl
 tag_kind if_tag = refl
 
-bare : (s : List ℕ) (at : ℕ) (t : Tag) (ws : List ℕ) → Stands s at (tag_word t ∷ ws) → (tag_row t).limit ≡ 0
-    → front_of s 1 at ≡ Is (tag_row t) (at + 1)
+bare : (s : List ℕ) (at : ℕ) (t : Tag) (ws : List ℕ) → Stands s at (tag_word t ∷ ws) → (tag_row t).limit ≡ None
+    → front_of s ExpressionKind at ≡ Some (front (tag_row t) (at + 1))
 bare s at t ws h l =
     let g = headed h in
-    sym (front_bare s 1 at (tag_row t) g.inside (sym (ap row_of g.is ∙ row_of_tag t)) (tag_kind t) l)
+    sym (front_bare s ExpressionKind at g.inside (tag_word t) (sym g.is) (tag_row t) (sym (row_of_tag t)) (tag_kind t) l)
 
-owned : (s : List ℕ) (at : ℕ) (t : Tag) (n : ℕ) (ws : List ℕ) → Stands s at (tag_word t ∷ n ∷ ws)
-    → n < (tag_row t).limit → front_of s 1 at ≡ Is (tag_row t) (at + 1 + 1)
-owned s at t n ws h l =
+owned : (s : List ℕ) (at : ℕ) (t : Tag) (n b : ℕ) (ws : List ℕ) → Stands s at (tag_word t ∷ n ∷ ws)
+    → (tag_row t).limit ≡ Some b → n < b → front_of s ExpressionKind at ≡ Some (front (tag_row t) (at + 1 + 1))
+owned s at t n b ws h z l =
     let g = headed h in
     let k = headed g.more in
-    sym (front_fine s 1 at (tag_row t) g.inside (sym (ap row_of g.is ∙ row_of_tag t)) (tag_kind t)
-    (λ z. omega arith) k.inside (omega (arith, k.is)))
+    sym (front_fine s ExpressionKind at g.inside (tag_word t) (sym g.is) (tag_row t) (sym (row_of_tag t)) (tag_kind t) b z
+    k.inside n (sym k.is) l)
 
 pub record Met (s : List ℕ) (at : ℕ) (e : Expression) : Type 0 where
   pub next : ℕ
-  pub front : front_of s 1 at ≡ Is (tag_row (head_tag e)) next
+  pub front : front_of s ExpressionKind at ≡ Some (front (tag_row (head_tag e)) next)
   pub types : types_end s (tag_row (head_tag e)).types next ≡ some (at + length (head e))
 
 pub met : (s : List ℕ) (at : ℕ) (e : Expression) → Formed e → Stands s at (words e) → Met s at e
@@ -178,7 +180,7 @@ met s at (constant c) f h =
 met s at (leaf k n) f h =
     record {
       next = at + 1 + 1;
-      front = owned s at (leaf_tag k) n [] h (omega arith);
+      front = owned s at (leaf_tag k) n _ [] h refl (omega arith);
       types = ap some (omega arith);
     }
 met s at (lambda x A e) f h =
@@ -186,7 +188,7 @@ met s at (lambda x A e) f h =
     let it = stands_left (type_words A) (words e) more in
     record {
       next = at + 1 + 1;
-      front = owned s at lambda_tag x (type_words A ++ words e) h (omega (arith, f.0));
+      front = owned s at lambda_tag x _ (type_words A ++ words e) h refl (omega (arith, f.0));
       types
           = one_type_lem s (at + 1 + 1)
           ∙ end_type_words A s it.rest (at + 1 + 1) it.eq

@@ -1,153 +1,155 @@
 // Substitution on words: an expression is written with a value for each free occurrence of a variable.
 #![tactic(auto)]
 
-ghost use Rattle.std.specs.Prelude.{◌+◌, ◌≤◌, length};
-ghost use Rattle.substitute.specs.Substitutes.{PieceAt, Ready, WritesNode, Replaces, Substitutes};
+ghost use Rattle.std.specs.Prelude.{◌≡◌, ◌+◌, ◌<◌, ◌≤◌, length};
+ghost use Rattle.words.specs.Tags.{word_of};
+ghost use Rattle.substitute.specs.Substitutes.{Named, PieceAt, WritesNode, Replaces, Substitutes};
 
-use image::nodes::{past, word_at};
-use words::walk::{Front, Walk, front_at, types_end};
+use image::nodes::past;
+use std::ops::Range;
+use words::reading::word_at;
+use words::table::Kind;
+use words::tags::Tag;
+use words::walk::{front_at, types_end};
 use write::cursor::copy_part;
 
-// What is written for a node: the words from `from` to `till`, and then so many children, which stand at `next`.
+// What goes in: for each free variable x, the words of the value, which stand in the same words from `from` to `end`.
+#[derive(Clone, Copy)]
+pub struct Filling {
+    pub x: u16,
+    pub from: usize,
+    pub end: usize,
+}
+
+// So many expressions that stand one after the other from `at` on.
+#[derive(Clone, Copy)]
+pub struct Children {
+    pub at: usize,
+    pub count: usize,
+}
+
+// What is written for a node: words, and then its children.
 #[derive(Drop)]
 pub struct Piece {
-    pub from: usize,
-    pub till: usize,
-    pub next: usize,
-    pub children: usize,
+    pub words: Range<usize>,
+    pub children: Children,
 }
 
-// The piece of the node at `at`: for the variable x the words from `a` to `b`, a lambda of x as it stands, and of any
-// other node its tag, own word and type. Where no node stands it is empty, and the reading is over.
-fn piece_at(s: &[u16], at: usize, x: u16, a: usize, b: usize) -> Piece
-    requires { b ≤ length s.now }
-    ensures { PieceAt s.now at x a b result }
+impl Piece {
+    // No children: the reading goes on at `next`.
+    fn bare(words: Range<usize>, next: usize) -> Piece
+        ensures { result ≡ record { words = words; children = record { at = next; count = 0 } } }
+    {
+        Piece {
+            words,
+            children: Children { at: next, count: 0 },
+        }
+    }
+}
+
+// Is it a node of that tag whose own word is x?
+fn is_named(s: &[u16], at: usize, tag: Tag, x: u16) -> bool
+    requires { at < length s.now }
+    ensures { Named s.now at (word_of tag) x result }
 {
-    let Front::Is(row, next) = front_at(s, 1, at) else {
-        return Piece {
-            from: 0,
-            till: 0,
-            next: s.len(),
-            children: 0,
-        };
-    };
-    if word_at(s, at + 1) == x {
-        let tag = word_at(s, at);
-        if tag == 4 {
-            return Piece {
-                from: a,
-                till: b,
-                next,
-                children: 0,
-            };
-        }
-        if tag == 7 {
-            let end = past(s, at);
-            return Piece {
-                from: at,
-                till: end,
-                next: end,
-                children: 0,
-            };
-        }
-    }
-    let children = row.children;
-    let Walk::Ends(body) = types_end(s, row.types, next) else {
-        return Piece {
-            from: 0,
-            till: 0,
-            next: s.len(),
-            children: 0,
-        };
-    };
-    Piece {
-        from: at,
-        till: body,
-        next: body,
-        children,
-    }
+    word_at(s, at) == tag as u16 && word_at(s, at + 1) == x
 }
 
-// A node's piece is written: where its children stand, how many, and the cursor.
-#[derive(Drop)]
+// The piece of the node at `at`: for the variable the value, a lambda of it as it stands, and of any other node its
+// tag, own word and type, and then its children.
+fn piece_at(s: &[u16], at: usize, filling: Filling) -> Option<Piece>
+    requires { filling.end ≤ length s.now }
+    ensures { PieceAt s.now at filling result }
+{
+    let front = front_at(s, Kind::Expression, at)?;
+    if is_named(s, at, Tag::Variable, filling.x) {
+        return Some(Piece::bare(filling.from..filling.end, front.next));
+    }
+    if is_named(s, at, Tag::Lambda, filling.x) {
+        let end = past(s, at);
+        return Some(Piece::bare(at..end, end));
+    }
+    let body = types_end(s, front.row.types, front.next)?;
+    Some(Piece {
+        words: at..body,
+        children: Children {
+            at: body,
+            count: front.row.children,
+        },
+    })
+}
+
+// A node's piece is written: its children are still to be, at the cursor.
+#[derive(Clone, Copy)]
 pub struct Opened {
-    pub next: usize,
-    pub children: usize,
+    pub children: Children,
     pub to: usize,
 }
 
-// Writes the piece of the node at `at`. Two functions call it, so that its stack stays out of the recursion.
-fn write_node(
-    s: &[u16],
-    at: usize,
-    x: u16,
-    a: usize,
-    b: usize,
-    out: &mut [u16],
-    to: usize,
-) -> Opened
-    requires { Ready s.now b out.old to }
-    ensures { WritesNode s.now at x a b out.old to result out.new }
+// Writes the piece of the node at `at`; where none stands it is empty, and the reading is over. Two functions call it,
+// so that its stack stays out of the recursion.
+fn write_node(s: &[u16], at: usize, filling: Filling, out: &mut [u16], to: usize) -> Opened
+    requires { filling.end ≤ length s.now }
+    ensures { WritesNode s.now at filling out.old to result out.new }
 {
-    let piece = piece_at(s, at, x, a, b);
-    let cursor = copy_part(s, piece.from, piece.till, out, to);
-    Opened {
-        next: piece.next,
-        children: piece.children,
-        to: cursor,
-    }
+    let piece = piece_at(s, at, filling).unwrap_or(Piece::bare(0..0, s.len()));
+    let children = piece.children;
+    let to = copy_part(s, piece.words, out, to);
+    Opened { children, to }
 }
 
 // Where the reading ended, and the cursor.
-#[derive(Drop)]
+#[derive(Clone, Copy)]
 pub struct Replaced {
     pub read: usize,
     pub to: usize,
 }
 
-// Writes the n expressions from `at` on, with the words of s from `a` to `b` for each free variable x. Calls itself for
-// the children of each; `left` is at least the count of the words that remain, and falls with each call.
+// Writes the expressions with the value for each free variable. Calls itself for the children of each; `left` is at
+// least the count of the words that remain, and falls with each call.
 fn replace(
     s: &[u16],
-    at: usize,
-    n: usize,
-    x: u16,
-    a: usize,
-    b: usize,
+    expressions: Children,
+    filling: Filling,
     out: &mut [u16],
     to: usize,
     left: usize,
 ) -> Replaced
-    requires { Ready s.now b out.old to }
-    ensures { Replaces s.now at n x a b out.old to left result out.new }
+    requires { (filling.end ≤ length s.now) × (to ≤ length out.old + 1) }
+    ensures { Replaces s.now expressions filling out.old to left result out.new }
 {
-    let mut done = Replaced { read: at, to };
+    let mut done = Replaced {
+        read: expressions.at,
+        to,
+    };
     if left == 0 {
         return done;
     }
-    let mut rest = n;
-    while 0 < rest {
-        let node = write_node(s, done.read, x, a, b, out, done.to);
-        done = replace(s, node.next, node.children, x, a, b, out, node.to, left - 1);
-        rest -= 1;
+    for _ in 0..expressions.count {
+        let node = write_node(s, done.read, filling, out, done.to);
+        done = replace(s, node.children, filling, out, node.to, left - 1);
     }
     done
 }
 
-// Writes the expression at `at` with the words of s from `a` to `b` for each free variable x, and answers the cursor.
+// Writes the expression at `at` with the words of s in the range `value` for each free variable x, and answers the
+// cursor.
 pub fn substitute(
     s: &[u16],
     at: usize,
     x: u16,
-    a: usize,
-    b: usize,
+    value: Range<usize>,
     out: &mut [u16],
     to: usize,
 ) -> usize
-    requires { (b ≤ length s.now) × (to ≤ length out.old + 1) }
-    ensures { Substitutes s.now at x a b out.old to result out.new }
+    requires { value.end ≤ length s.now }
+    ensures { Substitutes s.now at x value.start value.end out.old to result out.new }
 {
-    let node = write_node(s, at, x, a, b, out, to);
-    let done = replace(s, node.next, node.children, x, a, b, out, node.to, s.len());
-    done.to
+    let filling = Filling {
+        x,
+        from: value.start,
+        end: value.end,
+    };
+    let node = write_node(s, at, filling, out, to);
+    replace(s, node.children, filling, out, node.to, s.len()).to
 }

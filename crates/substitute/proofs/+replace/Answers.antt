@@ -5,8 +5,8 @@ use Rattle.substitute.proofs.+replace.Goals as goal
 pub returns-then-left-eq0 : goal.returns-then-left-eq0
 returns-then-left-eq0 t c = search none_left
 
-pub loop-rest-preserved : goal.loop-rest-preserved
-loop-rest-preserved t c = search turning_again
+pub loop-preserved : goal.loop-preserved
+loop-preserved t c = search turning_again
 
 pub returns : goal.returns
 returns t c = search turning_done
