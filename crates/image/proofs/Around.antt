@@ -86,7 +86,7 @@ module _ {A : Type 0} where
 
         pub remove_left : (X : Map A) → hits k X ≡ true → remove k (X ++ ((r, K) ∷ Y)) ≡ remove k X ++ ((r, K) ∷ Y)
         unfolding remove hits
-        remove_left [] h = absurd (let z : ◌≡◌ {A = ℕ} 0 1 = cc in omega arith)
+        remove_left [] h = absurd cc
         remove_left (e ∷ X) h = go (tri e.0 k) h (remove_left X)
           where
             go : Tri e.0 k → hits k (e ∷ X) ≡ true
@@ -99,7 +99,7 @@ module _ {A : Type 0} where
             go (above l) q ih =
                 let w : false ≡ true
                 = sym (rw (le-ltb e.0 k (omega arith), ne_eqb e.0 k (λ z. omega arith)) refl) ∙ q in
-                absurd (let z : ◌≡◌ {A = ℕ} 0 1 = cc in omega arith)
+                absurd cc
 
       module _ (l : r < k) (X : Map A) (b : Below r X) where
         pub put_right : (a : A) → put k a (X ++ ((r, K) ∷ Y)) ≡ X ++ ((r, K) ∷ put k a Y)

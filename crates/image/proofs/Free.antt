@@ -1,10 +1,11 @@
 -- The first clear mark is the smallest number that is not taken.
 use Prim.Native.Nat.{ℕ, ◌+◌, ◌≤◌, ◌<◌}
-use mathlib.Core.Bool.{Bool, true, false}
+use mathlib.Core.Bool.{Bool, false}
 use mathlib.Core.List.{List}
 use mathlib.Core.Option.{Option as Maybe, none, some}
 use Rattle.std.specs.Prelude.{Option, Some, None, not}
 use Rattle.std.specs.List.{position, position_or_len}
+use Rattle.std.proofs.lemmas.Bool.{not-true, not-false}
 use Rattle.std.proofs.lemmas.Grind.{common_steps}
 use Rattle.std.proofs.lemmas.List.Quantifiers.{position-Some}
 use Rattle.std.proofs.lemmas.List.Sums.{fails_before_first}
@@ -20,14 +21,7 @@ use Rattle.words.proofs.Marks.{marks_of_length, marks_of_member}
 use Rattle.image.specs.Marks.{ImageMarks}
 use Rattle.image.specs.Fresh.{as_option, SmallestClear, NewRevision, NewLocation}
 
-not_true : (b : Bool) → not b ≡ true → b ≡ false
-not_true true e = absurd cc
-not_true false e = refl
-
-not_false : (b : Bool) → not b ≡ false → b ≡ true
-not_false true e = refl
-not_false false e = absurd cc
-
+-- where none passes
 position-None : {X : Type 0} (p : X → Bool) (xs : List X) (k : ℕ) (d : X) → position p xs ≡ None → k < length xs
     → p (get_or xs k d) ≡ false
 position-None p xs k d e h =
@@ -56,8 +50,8 @@ module _ (n : ℕ) (taken : List ℕ) (m : List Bool) (e : m ≡ marks_of n 0 ta
       (record {
         low = omega arith;
         high = omega arith;
-        free = mark_is i (omega arith) ∙ not_true (get_or m i false) clear;
-        least = λ k a b. mark_is k (omega arith) ∙ not_false (get_or m k false) (set k b);
+        free = mark_is i (omega arith) ∙ not-true (get_or m i false) clear;
+        least = λ k a b. mark_is k (omega arith) ∙ not-false (get_or m k false) (set k b);
       }))
   place_smallest None p = go (smallest n 0 taken) refl
     where
@@ -68,7 +62,7 @@ module _ (n : ℕ) (taken : List ℕ) (m : List Bool) (e : m ≡ marks_of n 0 ta
           let x = smallest_is n 0 taken q in
           let h : j < n = let y = x.high in omega arith in
           true≢false
-          (sym (mark_is j h ∙ not_false (get_or m j false) (position-None not m j false (sym p) (omega arith)))
+          (sym (mark_is j h ∙ not-false (get_or m j false) (position-None not m j false (sym p) (omega arith)))
           ∙ x.free)
 
 pub smallest_place : (m : List Bool) (r : Option ℕ) → r ≡ position not m → SmallestClear m r

@@ -1,14 +1,14 @@
 -- Marks gathered over items that stand one after the other: an entry, a section, and the loop over the items of a map.
-use Prim.Native.Nat.{ℕ, suc, ◌+◌, ◌-◌, ◌≤◌, ◌<◌}
+use Prim.Native.Nat.{ℕ, ◌+◌, ◌-◌, ◌≤◌, ◌<◌}
 use mathlib.Core.Bool.{Bool}
-use mathlib.Core.List.{List, [], ◌∷◌, ◌++◌}
+use mathlib.Core.List.{List, ◌++◌}
 use mathlib.Core.Path.{◌≡◌, refl, sym, ap, ◌∙◌}
 use native.Mathlib.Omega.{arith}
 use lib.ListN.{length, get_or, take, drop, length-append}
 use Rattle.calculus.specs.Maps.{Map}
 use Rattle.calculus.specs.Words.{words}
 use Rattle.calculus.specs.Formed.{Formed}
-use Rattle.calculus.specs.Images.{entries, counted, cell_words, task_words, Listed, ValidCell, ValidStore, ValidTask}
+use Rattle.calculus.specs.Images.{counted, cell_words, task_words, Listed, ValidCell, ValidStore, ValidTask}
 use Rattle.words.specs.Marks.{mark_all}
 use Rattle.words.proofs.Marks.{mark_all_append}
 use Rattle.image.specs.declared.parts.Parts.{Parts}
@@ -16,6 +16,7 @@ use Rattle.image.specs.Standing.{Stands, EndsAt}
 use Rattle.image.specs.Cuts.{Past, PartsAt}
 use Rattle.image.specs.Marks.{Taking, in_map, in_section, MarksOf, MarksAt}
 use Rattle.image.proofs.Standing.{headed, stands_left, stands_right, stands_at, stands_take}
+use Rattle.image.proofs.Left.{Left, left_none, left_some, left_next}
 use Rattle.image.proofs.Seeking.{cell_ends}
 
 -- an entry
@@ -69,18 +70,10 @@ module _ (t : Taking) (s : List ℕ) (at k : ℕ) (parts : Parts) (p : PartsAt s
 
 -- the items of a map, each written by w
 module _ {A : Type 0} (w : A → List ℕ) (ok : A → Type 0) (top : ℕ) (each : ℕ → A → List ℕ) where
-  -- the items that stand at p are still to be marked
-  pub record ToMark (s : List ℕ) (n p i : ℕ) (all m : List Bool) : Type 0 where
-    pub map : Map A
-    pub low : ℕ
-    pub listed : Listed ok top low map
-    pub stand : Stands s p (entries w map)
-    pub count : i + length map ≡ n
-    pub marks : all ≡ mark_all (in_map each map) m
-
+  -- the items that are left are still to be marked
   pub record Marking (s : List ℕ) (at n : ℕ) (m₀ m : List Bool) (p i : ℕ) : Type 0 where
     pub sees : (x : Map A) → Listed ok top 0 x → Stands s at (counted w x)
-        → ToMark s n p i (mark_all (in_map each x) m₀) m
+        → Left w ok top s n p i (λ y. mark_all (in_map each x) m₀ ≡ mark_all (in_map each y) m)
 
   pub marking_start : (s : List ℕ) (at n : ℕ) (m : List Bool) → n ≡ get_or s at 0 → Marking s at n m m (at + 1) 0
   marking_start s at n m is =
@@ -88,59 +81,34 @@ module _ {A : Type 0} (w : A → List ℕ) (ok : A → Type 0) (top : ℕ) (each
         sees = λ x u h.
             let d = headed h in
             let e = d.is in
-            record { map = x; low = 0; listed = u; stand = d.more; count = omega arith; marks = refl };
+            record { map = x; low = 0; listed = u; stand = d.more; count = omega arith; holds = refl };
       }
 
   module _ (s : List ℕ) (at n : ℕ) (m₀ m : List Bool) (p i : ℕ) (g : Marking s at n m₀ m p i) where
     -- at the end of the map
     pub marking_done : n ≤ i → MarksAt (counted w) (Listed ok top 0) (in_map each) s at m₀ m
     unfolding in_map mark_all
-    marking_done l = record { marks = λ x u h. go (g.sees x u h) }
-      where
-        go : {all : List Bool} → ToMark s n p i all m → m ≡ all
-        go {all} f = empty f.map f.count f.marks
-          where
-            empty : (y : Map A) → i + length y ≡ n → all ≡ mark_all (in_map each y) m → m ≡ all
-            empty [] d e = sym e
-            empty (z ∷ y) d e = absurd (omega arith)
+    marking_done l = record { marks = λ x u h. sym (left_none w ok top (g.sees x u h) l) }
 
     -- past the end of s
     pub marking_out : i < n → length s ≤ p → MarksAt (counted w) (Listed ok top 0) (in_map each) s at m₀ m
-    marking_out l o = record { marks = λ x u h. go (g.sees x u h) }
-      where
-        go : {all : List Bool} → ToMark s n p i all m → m ≡ all
-        go {all} f = never f.map f.count f.stand
-          where
-            never : (y : Map A) → i + length y ≡ n → Stands s p (entries w y) → m ≡ all
-            never [] d e = absurd (omega arith)
-            never (z ∷ y) d e = let q = (headed e).inside in absurd (omega arith)
+    marking_out l o =
+        record {
+          marks = λ x u h. left_some w ok top (g.sees x u h) l (λ y z t e. let q = t.inside in absurd (omega arith));
+        }
 
     -- one item more
     pub marking_next : i < n → (q : ℕ) (v : List Bool) → Past w ok s (p + 1) q
         → MarksAt w ok (each (get_or s p 0)) s (p + 1) m v → Marking s at n m₀ v q (i + 1)
-    unfolding Listed in_map
-    marking_next l q v past turn = record { sees = λ x u h. go (g.sees x u h) }
-      where
-        go : {all : List Bool} → ToMark s n p i all m → ToMark s n q (i + 1) all v
-        go {all} f = next f.map f.listed f.count f.stand f.marks
-          where
-            next : (x : Map A) → Listed ok top f.low x → i + length x ≡ n → Stands s p (entries w x)
-                → all ≡ mark_all (in_map each x) m → ToMark s n q (i + 1) all v
-            next [] u c d e = absurd (omega arith)
-            next (y ∷ x) u c d e =
-                let hd = headed d in
-                let h = stands_left (w y.1) (entries w x) hd.more in
-                let made : v ≡ mark_all (each y.0 y.1) m
-                = turn.marks y.1 u.2 h ∙ ap (λ (k : ℕ). mark_all (each k y.1) m) hd.is in
-                record {
-                  map = x;
-                  low = suc y.0;
-                  listed = u.3;
-                  stand
-                      = stands_at q (sym (past.ends y.1 u.2 h)) (stands_right (w y.1) (entries w x) hd.more);
-                  count = omega arith;
-                  marks
-                      = e
-                      ∙ mark_all_append (each y.0 y.1) (in_map each x) m
-                      ∙ ap (mark_all (in_map each x)) (sym made);
-                }
+    unfolding in_map
+    marking_next l q v past turn =
+        record {
+          sees = λ x u h.
+              left_next w ok top (g.sees x u h) l q past
+              (λ y z t e f.
+              let made : v ≡ mark_all (each y.0 y.1) m
+              = turn.marks y.1 t.valid t.item ∙ ap (λ (k : ℕ). mark_all (each k y.1) m) t.key in
+              f
+              ∙ mark_all_append (each y.0 y.1) (in_map each z) m
+              ∙ ap (mark_all (in_map each z)) (sym made));
+        }

@@ -1,6 +1,8 @@
 -- The laws that the proofs of this crate's functions share, in reading order.
 pub mod Standing
+pub mod Left
 pub mod Seeking
+pub mod Sections
 pub mod Around
 pub mod Walking
 pub mod Gathering

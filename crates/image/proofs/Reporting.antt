@@ -26,7 +26,7 @@ module _ (s : List ℕ) (b : Bool) (is : b ≡ is_there (state_of s)) where
     where
       go : (o : Option State) → state_of s ≡ o → is_there o ≡ true
           → report_of (Ok u) ≡ report_from (state_of s)
-      go none p q = absurd (let z : ◌≡◌ {A = ℕ} 0 1 = cc in omega arith)
+      go none p q = absurd cc
       go (some x) p q =
           let (e, v) = read_is_image s x p in
           let m : u.marks ≡ marks_of 64 0 (taken_revisions x) = g.marks x v (sym e) in
@@ -40,7 +40,7 @@ module _ (s : List ℕ) (b : Bool) (is : b ≡ is_there (state_of s)) where
       go : (o : Option State) → state_of s ≡ o → is_there o ≡ false
           → report_from none ≡ report_from (state_of s)
       go none p q = sym (ap report_from p)
-      go (some x) p q = absurd (let z : ◌≡◌ {A = ℕ} 0 1 = cc in omega arith)
+      go (some x) p q = absurd cc
 
 -- the promise determines the report
 pub report_one : (s : List ℕ) (a b : Result InUse NotValid) → report_of a ≡ report_answer s → report_of b ≡ report_answer s

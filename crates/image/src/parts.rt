@@ -1,20 +1,22 @@
 // The parts of an image: the section of a revision, its stores and its expression, and an entry of a store.
 ghost use Rattle.std.specs.Prelude.{◌≤◌, ◌<◌, length};
-ghost use Rattle.calculus.specs.Images.{cell_words, task_words, ValidCell, ValidTask};
-ghost use Rattle.image.specs.Cuts.{Skips, Seeks, PartsAt, ValueIn, Found};
+ghost use Rattle.calculus.specs.Images.{counted, cell_words, task_words, ValidCell, ValidStore, ValidTask};
+ghost use Rattle.image.specs.Cuts.{Past, Seeks, PartsAt, ValueIn, Found};
 
 use crate::items::{Entry, Section, seek};
 use crate::nodes::past;
 use words::reading::word_at;
 
-// Where n entries of a store that start at `at` end.
-pub fn skip(s: &[u16], at: usize, n: usize) -> usize
-    ensures { Skips s.now at n result }
+// Where the store ends whose count stands at `at`.
+fn past_store(s: &[u16], at: usize) -> usize
+    requires { at ≤ length s.now }
+    ensures { Past (counted cell_words) ValidStore s.now at result }
 {
-    let mut p = at;
+    let n = word_at(s, at);
+    let mut p = at + 1;
     for _ in 0..n {
         if s.len() <= p {
-            return s.len();
+            break;
         }
         p = past(s, p + 1);
     }
@@ -36,14 +38,13 @@ pub struct Parts {
     pub end: usize,
 }
 
+// Where the parts of the section stand.
 pub fn parts_of(s: &[u16], at: usize) -> Parts
     requires { at ≤ length s.now }
     ensures { PartsAt s.now at result }
 {
-    let n = word_at(s, at) as usize;
-    let local = skip(s, at + 1, n);
-    let m = word_at(s, local) as usize;
-    let expression = skip(s, local + 1, m);
+    let local = past_store(s, at);
+    let expression = past_store(s, local);
     let end = past(s, expression);
     Parts {
         local,

@@ -1,6 +1,6 @@
 -- `parts::look_up` meets its contract: the local store's value, or else the snapshot's.
 use Rattle.std.proofs.Common.{rules}
-use Rattle.image.proofs.Seeking.{in_view}
+use Rattle.image.proofs.Sections.{in_view}
 use Rattle.image.proofs.parts.look_up.Goals as goal
 
 pub returns : goal.returns

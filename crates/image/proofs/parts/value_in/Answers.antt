@@ -1,5 +1,5 @@
 -- `parts::value_in` meets its contract: one law for each way through it.
-use Rattle.image.proofs.Seeking.{value_here, value_missing}
+use Rattle.image.proofs.Sections.{value_here, value_missing}
 use Rattle.image.proofs.parts.value_in.Goals as goal
 
 pub returns-in-Ok : goal.returns-in-Ok

@@ -1,0 +1,155 @@
+-- The parts of a section, and the value of a location in a store and in a view.
+use Prim.Native.Nat.{ℕ, ◌+◌, ◌≤◌, ◌<◌}
+use mathlib.Core.List.{List, ◌++◌}
+use mathlib.Core.Option.{Option as Maybe, none, some}
+use mathlib.Core.Path.{◌≡◌, sym, ap, ◌∙◌, subst}
+use native.Mathlib.Omega.{arith}
+use lib.ListN.{length, get_or, length-append}
+use Rattle.std.specs.Prelude.{MatchOption, Option, Some, None, Result, Ok, Err, min}
+use Rattle.calculus.specs.Maps.{get}
+use Rattle.calculus.specs.Words.{words}
+use Rattle.calculus.specs.Stores.{Cell, Store}
+use Rattle.calculus.specs.Images.{entries, counted, cell_words, task_words, Listed, ValidCell, ValidStore, ValidTask}
+use Rattle.calculus.proofs.Maps.{or_else, get_overlaid}
+use Rattle.calculus.proofs.Validity.{listed_rising}
+use Rattle.image.specs.declared.parts.Parts.{Parts}
+use Rattle.image.specs.Standing.{Stands, EndsAt}
+use Rattle.image.specs.Cuts.{before, onward, beyond, hits, Past, Seeks, PartsAt, CellAt, ValueIn, Found}
+use Rattle.image.proofs.Standing.{headed, stands_left, stands_right, stands_at, stands_as, stands_fits}
+use Rattle.image.proofs.Left.{Left, left_none, left_some, left_next}
+use Rattle.image.proofs.Seeking.{before_onward, hit, miss_get, entries_append, placed_hit, placed_miss, entry_past}
+
+-- the loop that passes over the entries of a store: those that are left end where the store does
+pub record Passing (s : List ℕ) (at n p i : ℕ) : Type 0 where
+  pub sees : (x : Store) → ValidStore x → Stands s at (counted cell_words x)
+      → Left cell_words ValidCell 255 s n p i
+      (λ y. p + length (entries cell_words y) ≡ at + length (counted cell_words x))
+
+pub passing_start : (s : List ℕ) (at n : ℕ) → n ≡ get_or s at 0 → Passing s at n (at + 1) 0
+passing_start s at n is =
+    record {
+      sees = λ x u h.
+          let d = headed h in
+          let e = d.is in
+          record { map = x; low = 0; listed = u; stand = d.more; count = omega arith; holds = omega arith };
+    }
+
+module _ (s : List ℕ) (at n p i : ℕ) (g : Passing s at n p i) where
+  pub passing_done : n ≤ i → at ≤ length s → (r : ℕ) → r ≡ min p (length s)
+      → Past (counted cell_words) ValidStore s at r
+  passing_done l b r is =
+      record {
+        high = omega arith;
+        ends = λ x u h.
+            let e = left_none cell_words ValidCell 255 (g.sees x u h) l in
+            let k = stands_fits h b in
+            omega arith;
+      }
+
+  pub passing_out : i < n → length s ≤ p → (r : ℕ) → r ≡ min p (length s)
+      → Past (counted cell_words) ValidStore s at r
+  passing_out l o r is =
+      record {
+        high = omega arith;
+        ends = λ x u h.
+            left_some cell_words ValidCell 255 (g.sees x u h) l
+            (λ y z t e. let q = t.inside in absurd (omega arith));
+      }
+
+  pub passing_next : i < n → (q : ℕ) → EndsAt s (p + 1) q → Passing s at n q (i + 1)
+  passing_next l q ends =
+      record {
+        sees = λ x u h.
+            left_next cell_words ValidCell 255 (g.sees x u h) l q (entry_past s (p + 1) q ends)
+            (λ y z t e f. let la = length-append (cell_words y.1) (entries cell_words z) in omega arith);
+      }
+
+-- the parts of a section
+pub cut : (s : List ℕ) (at local expression end : ℕ) → Past (counted cell_words) ValidStore s at local
+    → Past (counted cell_words) ValidStore s local expression → EndsAt s expression end
+    → PartsAt s at (record { local = local; expression = expression; end = end })
+unfolding task_words
+cut s at local expression end a c e =
+    record {
+      local = a.high;
+      expression = c.high;
+      order = e.from c.high;
+      end = e.high;
+      cut = λ me v h.
+          let f = counted cell_words me.snapshot in
+          let o = counted cell_words me.local in
+          let x = words me.expression in
+          let i1 : local ≡ at + length f = a.ends me.snapshot v.snapshot (stands_left f (o ++ x) h) in
+          let st : Stands s local (o ++ x) = stands_at local (sym i1) (stands_right f (o ++ x) h) in
+          let i2 : expression ≡ local + length o = c.ends me.local v.local (stands_left o x st) in
+          let i3 : end ≡ expression + length x
+          = e.ends me.expression v.expression.0 (stands_at expression (sym i2) (stands_right o x st)) in
+          let la = length-append f (o ++ x) in
+          let lb = length-append o x in
+          record { local = i1; expression = i2; end = omega arith };
+    }
+
+pub section_past : (s : List ℕ) (at : ℕ) (c : Parts) → PartsAt s at c → Past task_words ValidTask s at c.end
+section_past s at c h = record { high = h.end; ends = λ a u st. (h.cut a u st).end }
+
+-- a cell that is hit stands after its location
+pub hit_cell : (s : List ℕ) (at n l : ℕ) (q : Result ℕ ℕ) (p : ℕ) (m : Store) (low : ℕ)
+    → Seeks cell_words ValidCell 255 s at n l q → Listed ValidCell 255 low m → Stands s at (entries cell_words m)
+    → length m ≡ n → q ≡ Ok p → (c : Cell) × (get l m ≡ some c) × Stands s (p + 1) (cell_words c)
+hit_cell s at n l q p m low k u h c t =
+    let first = entries cell_words (before l m) in
+    let more = entries cell_words (onward l m) in
+    let e = placed_hit (hits l m) (at + length first) p (sym t ∙ k.answer m low u h c) in
+    let H = hit l m e.0 in
+    let split : entries cell_words m ≡ first ++ more
+    = ap (entries cell_words) (before_onward l m) ∙ entries_append cell_words (before l m) (onward l m) in
+    let st : Stands s p more = stands_at p (sym e.1) (stands_right first more (stands_as split h)) in
+    let after = (headed (stands_as (ap (entries cell_words) H.onward) st)).more in
+    (H.here, H.get, stands_left (cell_words H.here) (entries cell_words (beyond l m)) after)
+
+pub miss_cell : (s : List ℕ) (at n l : ℕ) (q : Result ℕ ℕ) (p : ℕ) (m : Store) (low : ℕ)
+    → Seeks cell_words ValidCell 255 s at n l q → Listed ValidCell 255 low m → Stands s at (entries cell_words m)
+    → length m ≡ n → q ≡ Err p → get l m ≡ none
+miss_cell s at n l q p m low k u h c t =
+    let e = placed_miss (hits l m) (at + length (entries cell_words (before l m))) p
+    (sym t ∙ k.answer m low u h c) in
+    miss_get l m (listed_rising ValidCell 255 m low u) e.0
+
+-- the value in a store, and in a view
+module _ (s : List ℕ) (store l n : ℕ) (ni : n ≡ get_or s store 0) (q : Result ℕ ℕ)
+    (k : Seeks cell_words ValidCell 255 s (store + 1) n l q) (p : ℕ) where
+  pub value_here : q ≡ Ok p → ValueIn s store l (Some (p + 1))
+  value_here t =
+      record {
+        answer = λ m v st.
+            let h = headed st in
+            let (c, g, at) = hit_cell s (store + 1) n l q p m 0 k v h.more (sym (ni ∙ h.is)) t in
+            subst (λ (o : Maybe Cell). CellAt s o (Some (p + 1))) (sym g) at;
+      }
+
+  pub value_missing : q ≡ Err p → ValueIn s store l None
+  value_missing t =
+      record {
+        answer = λ m v st.
+            let h = headed st in
+            subst (λ (o : Maybe Cell). CellAt s o None)
+            (sym (miss_cell s (store + 1) n l q p m 0 k v h.more (sym (ni ∙ h.is)) t)) tt;
+      }
+
+-- the local store's value, or else the snapshot's
+pub in_view : {P : Type 0} (s : List ℕ) (snapshot local l : ℕ) (a r : Option ℕ) → ValueIn s local l a
+    → (P → ValueIn s snapshot l r) → MatchOption a P (λ x. r ≡ Some x) → Found s snapshot local l r
+in_view {P} s snapshot local l a r ka to h =
+    record {
+      answer = λ me v hs ho.
+          rw get_overlaid
+          (go a h (get l me.local) (ka.answer me.local v.local ho) (get l me.snapshot)
+          (λ k. (to k).answer me.snapshot v.snapshot hs));
+    }
+  where
+    go : (a : Option ℕ) → MatchOption a P (λ x. r ≡ Some x) → (x : Maybe Cell) → CellAt s x a
+        → (y : Maybe Cell) → (P → CellAt s y r) → CellAt s (or_else x y) r
+    go None h none k y f = f h
+    go None h (some c) k y f = absurd k
+    go (Some p) h none k y f = absurd k
+    go (Some p) h (some c) k y f = rw h k
