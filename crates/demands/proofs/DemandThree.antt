@@ -35,8 +35,7 @@ use Rattle.engine.specs.declared.answers.Loaded.{Loaded}
 use Rattle.engine.specs.declared.answers.Ran.{Ran}
 use Rattle.engine.specs.Answers.{loaded_number, loaded_length, ran_number, ran_length}
 use Rattle.engine.specs.Promises.{LoadPromise, RunPromise}
-use Rattle.typing.specs.declared.Checked.{Checked}
-use Rattle.typing.specs.Checks.{number_of, length_of, CheckPromise}
+use Rattle.typing.specs.Checks.{Checked, number_of, length_of, CheckPromise}
 use Rattle.demands.specs.DemandThree.{SafeRun}
 use Rattle.demands.proofs.DemandTwo.{refusal_exactly}
 

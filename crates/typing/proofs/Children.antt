@@ -2,31 +2,36 @@
 use Prim.Native.Nat.{ℕ, ◌≤◌, ◌+◌}
 use mathlib.Core.List.{List, ◌++◌, ◌∷◌, append_assoc}
 use mathlib.Core.Logic.{inr, inl}
-use mathlib.Core.Option.{Option, some, none}
+use mathlib.Core.Option.{Option as Maybe, some, none}
 use mathlib.Core.Path.{◌≡◌, ap, refl, sym, ◌∙◌, subst}
 use native.Mathlib.Omega.{arith}
 use lib.ListN.{length, get_or, drop, length-drop, length-append}
-use Rattle.typing.specs.declared.rules.Inferred.{Inferred}
-use Rattle.typing.specs.declared.rules.Inferred.TheVariants.{No, Is}
+use Rattle.std.specs.Prelude.{Ok, Err}
+use Rattle.typing.specs.declared.CheckError.{CheckError}
+use Rattle.typing.specs.declared.rules.Typed.{Typed}
+use Rattle.typing.specs.declared.CheckError.TheVariants.{NoType}
 use Rattle.calculus.specs.Expressions.{Expression}
 use Rattle.calculus.specs.Types.{ScriptType}
 use Rattle.calculus.specs.Typing.{Assignment, type_of, no_world}
 use Rattle.calculus.specs.Words.{type_words, words}
 use Rattle.typing.specs.Held.{Means, Small}
 use Rattle.typing.specs.Inferring.{Keeps, Stands, Infers, Kept, Passed, words_all}
-use Rattle.typing.specs.Rulings.{Scope, Noted, Answers}
+use Rattle.typing.specs.Rulings.{Inferred, typed, Scope, Noted, Answers}
 use Rattle.calculus.proofs.Options.{none≢some, some_inj}
 use Rattle.typing.proofs.Ends.{written_in}
 use Rattle.typing.proofs.Fronts.{past}
 use Rattle.typing.proofs.Meaning.{frame}
 use Rattle.typing.proofs.Sizes.{Short, small_type}
 
+typed_inj : {a b : Typed} → ◌≡◌ {A = Inferred} (Ok a) (Ok b) → a ≡ b
+typed_inj e = cc
+
 -- an annotation of the script is short
 scope_short : (s t : List ℕ) (Γ : Assignment) → length s ≤ 2048 → Scope s t Γ → Short 2048 Γ
 unfolding Noted
 scope_short s t Γ h b x l A e = go (Γ x) e (b x l)
   where
-    go : (o : Option ScriptType) → o ≡ some A → Noted s (get_or t (2048 + x) 0) o → length (type_words A) ≤ 2048
+    go : (o : Maybe ScriptType) → o ≡ some A → Noted s (get_or t (2048 + x) 0) o → length (type_words A) ≤ 2048
     go none q k = none≢some q
     go (some B) q k =
         let p : length (type_words B) ≡ length (type_words A) =
@@ -53,18 +58,18 @@ stands_high s t at left e Γ d h =
 
 module _ (s t t' : List ℕ) (at left : ℕ) (x : Inferred) (e : Expression) (Γ : Assignment)
     (c : Infers s at left t x t') (d : Stands s t at left e Γ) where
-  pub child : (a f : ℕ) → length s ≤ 2048 → at ≤ length s → x ≡ Is a f → Child s at f t t' e Γ a
+  pub child : (a f : ℕ) → length s ≤ 2048 → at ≤ length s → x ≡ typed a f → Child s at f t t' e Γ a
   unfolding Answers
   child a f h l q = go (type_of no_world Γ e) refl (c.settles e Γ d).is (c.settles e Γ d).kept
     where
-      same : (b : ℕ) (g : ℕ) → x ≡ Is b g → (b ≡ a) × (g ≡ f)
-      same b g p = (cc, cc)
+      same : (b : ℕ) (g : ℕ) → x ≡ typed b g → (b ≡ a) × (g ≡ f)
+      same b g p = let e = typed_inj (sym p ∙ q) in (ap (λ (y : Typed). y.held) e, ap (λ (y : Typed). y.end) e)
 
-      go : (o : Option ScriptType) → type_of no_world Γ e ≡ o → Answers s t' at (at + length (words e)) x o
+      go : (o : Maybe ScriptType) → type_of no_world Γ e ≡ o → Answers s t' at (at + length (words e)) x o
           → Kept at (at + length (words e)) t t' o → Child s at f t t' e Γ a
       go none p n k =
           absurd
-          (let z : ◌≡◌ {A = Inferred} (Is a f) (No 13) = sym q ∙ n in
+          (let z : ◌≡◌ {A = Inferred} (typed a f) (Err NoType) = sym q ∙ n in
           let y : ◌≡◌ {A = ℕ} 0 1 = cc in omega arith)
       go (some A) p (b, n, m) k =
           let (u, v) = same b (at + length (words e)) n in
@@ -81,16 +86,16 @@ module _ (s t t' : List ℕ) (at left : ℕ) (x : Inferred) (e : Expression) (Γ
             small = small_type e Γ A (omega arith) d.formed (scope_short s t Γ h d.scope) p;
           }
 
-  pub child_refused : (n : ℕ) → x ≡ No n → (type_of no_world Γ e ≡ none) × (x ≡ No 13)
+  pub child_refused : (n : CheckError) → x ≡ Err n → (type_of no_world Γ e ≡ none) × (x ≡ Err NoType)
   unfolding Answers
   child_refused n q = go (type_of no_world Γ e) refl (c.settles e Γ d).is
     where
-      go : (o : Option ScriptType) → type_of no_world Γ e ≡ o → Answers s t' at (at + length (words e)) x o
-          → (type_of no_world Γ e ≡ none) × (x ≡ No 13)
+      go : (o : Maybe ScriptType) → type_of no_world Γ e ≡ o → Answers s t' at (at + length (words e)) x o
+          → (type_of no_world Γ e ≡ none) × (x ≡ Err NoType)
       go none p k = (p, k)
       go (some A) p (b, k, m) =
           absurd
-          (let z : ◌≡◌ {A = Inferred} (No n) (Is b (at + length (words e))) = sym q ∙ k in
+          (let z : ◌≡◌ {A = Inferred} (Err n) (typed b (at + length (words e))) = sym q ∙ k in
           let y : ◌≡◌ {A = ℕ} 0 1 = cc in omega arith)
 
 -- the next child
@@ -118,7 +123,7 @@ pub record Next (s t : List ℕ) (at f g left : ℕ) (t' t'' : List ℕ) (Γ : A
   pub link : get_or t'' at 0 ≡ get_or t' at 0
 
 pub next : (s t t' t'' : List ℕ) (at f g left b end : ℕ) (Γ : Assignment) (e : Expression) (es : List Expression)
-    (y : Inferred) → length s ≤ 2048 → y ≡ Is b g → Infers s f left t' y t''
+    (y : Inferred) → length s ≤ 2048 → y ≡ typed b g → Infers s f left t' y t''
     → Passed s t at f left t' Γ (e ∷ es) end → Next s t at f g left t' t'' Γ e es b end
 unfolding next_stands
 next s t t' t'' at f g left b end Γ e es y h q c p =

@@ -1,13 +1,12 @@
 -- Where a written type ends, by the reader of calculus, and the part of the script that it is.
 use Prim.Native.Nat.{◌-◌, ◌≤◌, ◌<◌, ℕ, ◌+◌}
 use mathlib.Core.List.{List, ◌++◌, []}
-use mathlib.Core.Option.{some, Option, none}
+use mathlib.Core.Option.{some}
 use mathlib.Core.Path.{◌≡◌, ap, refl, sym, ◌∙◌}
 use native.Mathlib.Omega.{arith}
 use lib.ListN.{length, drop, length-drop, length-append, take, length-take}
 use lib.Seq.{take_at}
-use Rattle.words.specs.declared.walk.Walk.{Walk}
-use Rattle.words.specs.declared.walk.Walk.TheVariants.{Ends, Broken}
+use Rattle.std.specs.Prelude.{Some, None}
 use Rattle.calculus.specs.Reading.{type_end, read_type}
 use Rattle.calculus.specs.Tags.{type_tag_word, basic_tag}
 use Rattle.calculus.specs.Types.{ScriptType, basic, reference, function, Basic, unit_type, bool_type, num_type, rev_type}
@@ -15,6 +14,7 @@ use Rattle.calculus.specs.Words.{type_words}
 use Rattle.words.specs.Walks.{walk_of}
 use Rattle.typing.specs.Held.{Written, Named}
 use Rattle.calculus.proofs.Options.{▸-some, some_inj, none≢some}
+use Rattle.words.proofs.Children.{walk_ends, walk_broken}
 use Rattle.calculus.proofs.Reading.{read_type_words, type_words_read}
 
 pub wide : (A : ScriptType) → 1 ≤ length (type_words A)
@@ -57,35 +57,31 @@ type_end_in s p e h =
     let z : p + length (type_words q.0) ≡ e = some_inj v in
     (omega (arith, wide q.0), omega arith)
 
-walk_ends : (o : Option ℕ) (w : Walk) (e : ℕ) → w ≡ walk_of o → w ≡ Ends e → o ≡ some e
-walk_ends none w e p q = absurd (let z : ◌≡◌ {A = ℕ} 0 1 = cc in omega arith)
-walk_ends (some d) w e p q = cc
-
-walk_broken : (o : Option ℕ) (w : Walk) → w ≡ walk_of o → w ≡ Broken → o ≡ none
-walk_broken none w p q = refl
-walk_broken (some d) w p q = absurd (let z : ◌≡◌ {A = ℕ} 0 1 = cc in omega arith)
-
 -- what a walk over the type at p tells
-module _ (s : List ℕ) (p : ℕ) (w : Walk) (h : w ≡ walk_of (type_end s p)) where
-  pub ends_of : (e : ℕ) → w ≡ Ends e → (A : ScriptType) → Written s p A → e ≡ p + length (type_words A)
-  ends_of e q A v = some_inj (sym (walk_ends (type_end s p) w e h q) ∙ type_end_of s p A v)
+module _ (s : List ℕ) (p e : ℕ) (q : Some e ≡ walk_of (type_end s p)) where
+  is : type_end s p ≡ some e
+  is = walk_ends (type_end s p) e q
 
-  pub ends_after : (e : ℕ) → w ≡ Ends e → p < e
-  ends_after e q = (type_end_in s p e (walk_ends (type_end s p) w e h q)).0
+  pub ends_of : (A : ScriptType) → Written s p A → e ≡ p + length (type_words A)
+  ends_of A v = some_inj (sym is ∙ type_end_of s p A v)
 
-  pub ends_in : (e : ℕ) → w ≡ Ends e → e ≤ length s
-  ends_in e q = (type_end_in s p e (walk_ends (type_end s p) w e h q)).1
+  pub ends_after : p < e
+  ends_after = (type_end_in s p e is).0
 
-  pub broken_none : w ≡ Broken → (A : ScriptType) → Written s p A → ⊥
-  broken_none q A v = none≢some (sym (walk_broken (type_end s p) w h q) ∙ type_end_of s p A v)
+  pub ends_in : e ≤ length s
+  ends_in = (type_end_in s p e is).1
 
-  pub named_none : w ≡ Broken → Named s p []
-  named_none q = record { short = omega arith; is = λ A v. absurd (broken_none q A v) }
-
-  pub named_part : (e : ℕ) → w ≡ Ends e → Named s p (take (e - p) (drop p s))
-  named_part e q = record {
+  pub named_part : Named s p (take (e - p) (drop p s))
+  named_part = record {
     short = omega (arith, length-take (e - p) (drop p s), length-drop p s);
     is = λ A v.
-        let d : e - p ≡ length (type_words A) = let k = ends_of e q A v in omega arith in
+        let d : e - p ≡ length (type_words A) = let k = ends_of A v in omega arith in
         rw (d, v.is) (take_at (type_words A) v.rest _ refl);
   }
+
+module _ (s : List ℕ) (p : ℕ) (q : None ≡ walk_of (type_end s p)) where
+  pub ends_nowhere : (A : ScriptType) → Written s p A → ⊥
+  ends_nowhere A v = none≢some (sym (walk_broken (type_end s p) q) ∙ type_end_of s p A v)
+
+  pub named_none : Named s p []
+  named_none = record { short = omega arith; is = λ A v. absurd (ends_nowhere A v) }

@@ -1,49 +1,41 @@
 -- Equal types: equal words, head by head.
-use Prim.Native.Nat.{◌-◌, ℕ, ◌≤◌, ◌<◌, ◌+◌}
+use Prim.Native.Nat.{ℕ, ◌≤◌, ◌<◌, ◌+◌}
 use mathlib.Core.Bool.{false, true, cond, Bool}
 use mathlib.Core.List.{List, ◌++◌, append_assoc, []}
 use mathlib.Core.Path.{◌≡◌, refl, ap, sym, ◌∙◌, ap₂, subst}
 use native.Mathlib.Omega.{arith}
 use lib.Dec.{eqb}
 use lib.ListN.{length, get_or, drop, length-append}
-use lib.Seq.{ext_get_or}
-use borrow.Author.Count.{below_more}
+use Rattle.std.specs.Prelude.{Option, Some, None}
+use Rattle.std.specs.Bool.{Decides}
+use Rattle.std.specs.Cmp.Lexicographic.{pointwise}
+use Rattle.std.proofs.Common.{rules}
+use denote.Enum.Bare.{sameb, same_true, true_same}
+use Rattle.words.specs.contracts.tags.TypeTag.{the_type}
+use Rattle.words.specs.declared.tags.TypeTag.TheVariants.{Unit as UnitTag, Bool as BoolTag, Number as NumberTag}
+use Rattle.words.specs.declared.tags.TypeTag.TheVariants.{Rev as RevTag, Reference as ReferenceTag}
+use Rattle.words.specs.declared.tags.TypeTag.TheVariants.{Function as FunctionTag}
+use Rattle.std.proofs.lemmas.Slice.Eq.{slice_eq-Decides}
+use Rattle.std.proofs.lemmas.Bool.Decides.{Decides-eqb}
 use Rattle.typing.specs.declared.types.Head.{Head}
+use Rattle.typing.specs.declared.types.Head.TheVariants.{Unit as UnitHead, Bool as BoolHead, Number, Rev, Reference}
+use Rattle.typing.specs.declared.types.Head.TheVariants.{Function}
+use Rattle.words.specs.declared.tags.TypeTag.{TypeTag}
+use Rattle.words.specs.Tags.{type_word_of}
 use Rattle.calculus.specs.Tags.{type_tag_word, basic_tag}
 use Rattle.calculus.specs.Types.{basic, Basic, unit_type, bool_type, num_type, rev_type, ScriptType, reference, function}
 use Rattle.calculus.specs.Words.{type_words}
-use Rattle.typing.specs.Held.{Decides, HeadIs, Alike, SameHeads, Named, Means, SameTypes, Headed}
+use Rattle.typing.specs.Held.{HeadIs, Alike, SameHeads, Named, Means, SameTypes, Headed, basic_head, tag_of, rest_of}
 use Rattle.typing.proofs.Ends.{basic_36, wide}
 
 pub no_way : {C : Type 0} → false ≡ true → C
 no_way e = absurd (let z : ◌≡◌ {A = ℕ} 0 1 = cc in omega arith)
 
-pub never : {P : Type 0} → (P → ⊥) → Decides P false
-never h = record { sound = λ e. no_way e; complete = λ p. absurd (h p) }
+pub never : {P : Type 0} → (P → ⊥) → Decides false P
+never h = (λ e. no_way e, λ p. absurd (h p))
 
-pub always : {P : Type 0} → P → Decides P true
-always p = record { sound = λ e. p; complete = λ q. refl }
-
--- two lists
-pub record EqSo (a b : List ℕ) (i : ℕ) : Type 0 where
-  pub low : i ≤ length a
-  pub same : (k : ℕ) → k < i → get_or a k 0 ≡ get_or b k 0
-
-module _ (a b : List ℕ) where
-  pub eq_length : (length a ≡ length b → ⊥) → Decides (a ≡ b) false
-  eq_length h = never (λ e. h (ap length e))
-
-  pub eq_none : EqSo a b 0
-  eq_none = record { low = omega arith; same = λ k h. absurd (omega arith) }
-
-  pub eq_more : (i : ℕ) → i < length a → get_or a i 0 ≡ get_or b i 0 → EqSo a b i → EqSo a b (i + 1)
-  eq_more i h e c = record { low = omega arith; same = below_more _ _ c.same e }
-
-  pub eq_at : (i : ℕ) → (get_or a i 0 ≡ get_or b i 0 → ⊥) → Decides (a ≡ b) false
-  eq_at i h = never (λ e. h (ap (λ (l : List ℕ). get_or l i 0) e))
-
-  pub eq_all : (i : ℕ) → length a ≡ length b → length a ≤ i → EqSo a b i → Decides (a ≡ b) true
-  eq_all i e h c = always (ext_get_or 0 a b e (λ k l. c.same k (omega arith)))
+pub always : {P : Type 0} → P → Decides true P
+always p = (λ e. p, λ q. refl)
 
 -- a type is known by its words, whatever follows them
 basic_of_word : ℕ → Basic
@@ -84,11 +76,26 @@ pub words_inj : (A B : ScriptType) → type_words A ≡ type_words B → A ≡ B
 words_inj A B e = (unique A B [] [] (ap (λ (l : List ℕ). l ++ []) e)).0
 
 -- heads
-pub head_first : (s t : List ℕ) (i j : ℕ) (A : ScriptType) (r : Head) → HeadIs s t i j A r → r.word ≡ first A
+abbrev pub head_word : Head → ℕ
+head_word h = type_word_of (tag_of h)
+
+pub basic_head_word : (b : Basic) → head_word (basic_head b) ≡ type_tag_word (basic_tag b)
+basic_head_word unit_type = refl
+basic_head_word bool_type = refl
+basic_head_word num_type = refl
+basic_head_word rev_type = refl
+
+pub some_none : {A : Type 0} {a : A} → Some a ≡ None → ⊥
+some_none e = cc
+
+pub some_head : {a b : Head} → Some a ≡ Some b → a ≡ b
+some_head e = cc
+
+pub head_first : (s t : List ℕ) (i j : ℕ) (A : ScriptType) (r : Head) → HeadIs s t i j A (Some r) → head_word r ≡ first A
 unfolding HeadIs
-head_first s t i j (basic b) r h = h
-head_first s t i j (reference A) r h = h.0
-head_first s t i j (function A B) r h = h.0
+head_first s t i j (basic b) r h = ap head_word (some_head h) ∙ basic_head_word b
+head_first s t i j (reference A) r h = ap head_word (some_head h.1)
+head_first s t i j (function A B) r h = ap head_word (some_head h.2)
 
 alike_first : (A B : ScriptType) → Alike A B → first A ≡ first B
 unfolding Alike
@@ -114,60 +121,109 @@ first_alike (function A D) (basic b) e h = let k = basic_36 b in omega arith
 first_alike (function A D) (reference B) e h = omega arith
 first_alike (function A D) (function B C) e h = absurd (h refl)
 
-pub heads_unlike : (s : List ℕ) (a b : Head) → (a.word ≡ b.word → ⊥) → SameHeads s a b false
-heads_unlike s a b h = record {
-  is = λ t i j A B x y. never (λ k. h (head_first s t i j A a x ∙ alike_first A B k ∙ sym (head_first s t i j B b y)));
-}
+pub no_function : (h : Head) → ((m n : ℕ) → h ≡ Function m n → ⊥) → head_word h ≡ 37 → ⊥
+no_function UnitHead n e = omega arith
+no_function BoolHead n e = omega arith
+no_function Number n e = omega arith
+no_function Rev n e = omega arith
+no_function (Reference k) n e = omega arith
+no_function (Function k l) n e = n k l refl
 
-pub heads_like : (s : List ℕ) (a b : Head) → a.word ≡ b.word → (a.word ≡ 37 → ⊥) → SameHeads s a b true
-heads_like s a b e h = record {
+-- the derived `==` of tags
+word_tag : ℕ → TypeTag
+word_tag w =
+    cond (eqb w 32) UnitTag
+    (cond (eqb w 33) BoolTag (cond (eqb w 34) NumberTag (cond (eqb w 35) RevTag (cond (eqb w 36) ReferenceTag FunctionTag))))
+
+word_tag_is : (g : TypeTag) → word_tag (type_word_of g) ≡ g
+unfolding word_tag
+word_tag_is UnitTag = refl
+word_tag_is BoolTag = refl
+word_tag_is NumberTag = refl
+word_tag_is RevTag = refl
+word_tag_is ReferenceTag = refl
+word_tag_is FunctionTag = refl
+
+same_type_tag : (g h : TypeTag) → type_word_of g ≡ type_word_of h → g ≡ h
+same_type_tag g h e = sym (word_tag_is g) ∙ ap word_tag e ∙ word_tag_is h
+
+-- the first is no function's
+pub heads_plain : (s : List ℕ) (a b : Head) (g h : TypeTag) (r : Bool) → g ≡ tag_of a → h ≡ tag_of b
+    → ((m n : ℕ) → a ≡ Function m n → ⊥) → r ≡ sameb the_type g h → SameHeads s a b r
+heads_plain s a b g h r u v n d = record {
   is = λ t i j A B x y.
       let p = head_first s t i j A a x in
-      let q = head_first s t i j B b y in
-      always (first_alike A B (sym p ∙ e ∙ q) (λ z. h (p ∙ z)));
+      let q = head_first s t i j B b y in (
+        λ e.
+            let w : g ≡ h = same_true the_type (search rules) g h (sym d ∙ e) in
+            let z : head_word a ≡ head_word b = ap type_word_of (sym u ∙ w ∙ v) in
+            first_alike A B (sym p ∙ z ∙ q) (λ l. no_function a n (p ∙ l)),
+        λ k.
+            let w : tag_of a ≡ tag_of b = same_type_tag (tag_of a) (tag_of b) (p ∙ alike_first A B k ∙ sym q) in
+            d ∙ true_same the_type g h (u ∙ w ∙ sym v),
+      );
 }
 
-heads_function_case : (s t : List ℕ) (i j : ℕ) (A B : ScriptType) (a b : Head) (u v : List ℕ) (r : Bool)
-    → a.word ≡ b.word → a.word ≡ 37 → Named s a.argument u → Named s b.argument v → Decides (u ≡ v) r
-    → HeadIs s t i j A a → HeadIs s t i j B b → Decides (Alike A B) r
-unfolding HeadIs Alike
-heads_function_case s t i j (basic x) B a b u v r e f m n d h k = absurd (let z = basic_36 x in omega arith)
-heads_function_case s t i j (reference A) B a b u v r e f m n d h k = absurd (omega (arith, h.0))
-heads_function_case s t i j (function A C) (basic y) a b u v r e f m n d h k = absurd (let z = basic_36 y in omega arith)
-heads_function_case s t i j (function A C) (reference B) a b u v r e f m n d h k = absurd (omega (arith, k.0))
-heads_function_case s t i j (function A C) (function B D) a b u v r e f m n d h k =
-    let p : u ≡ type_words A = m.is A h.1 in
-    let q : v ≡ type_words B = n.is B k.1 in
-    record {
-      sound = λ z. words_inj A B (sym p ∙ d.sound z ∙ q);
-      complete = λ z. d.complete (p ∙ ap type_words z
-          ∙ sym q);
-    }
+-- the first is a function's and the second is not
+pub heads_unlike : (s : List ℕ) (a b : Head) (p m : ℕ) → a ≡ Function p m → ((k n : ℕ) → b ≡ Function k n → ⊥)
+    → SameHeads s a b false
+heads_unlike s a b p m e n = record {
+  is = λ t i j A B x y.
+      never (λ k. no_function b n
+      (head_first s t i j B b y ∙ sym (alike_first A B k) ∙ sym (head_first s t i j A a x) ∙ ap head_word e));
+}
 
-pub heads_function : (s : List ℕ) (a b : Head) (u v : List ℕ) (r : Bool) → a.word ≡ b.word → a.word ≡ 37
-    → Named s a.argument u → Named s b.argument v → Decides (u ≡ v) r → SameHeads s a b r
-heads_function s a b u v r e f m n d =
-    record { is = λ t i j A B h k. heads_function_case s t i j A B a b u v r e f m n d h k }
+pub function_argument : {m n k l : ℕ} → Function m n ≡ Function k l → m ≡ k
+function_argument e = cc
+
+heads_function_case : (s t : List ℕ) (i j : ℕ) (A B : ScriptType) (p m q n : ℕ) (u v : List ℕ) (r : Bool)
+    → Named s p u → Named s q v → Decides r (u ≡ v)
+    → HeadIs s t i j A (Some (Function p m)) → HeadIs s t i j B (Some (Function q n)) → Decides r (Alike A B)
+unfolding HeadIs Alike
+heads_function_case s t i j (basic x) B p m q n u v r e f d h k =
+    absurd (let z = basic_36 x in let y = head_first s t i j (basic x) (Function p m) h in omega arith)
+heads_function_case s t i j (reference A) B p m q n u v r e f d h k =
+    absurd (let y = head_first s t i j (reference A) (Function p m) h in omega arith)
+heads_function_case s t i j (function A C) (basic x) p m q n u v r e f d h k =
+    absurd (let z = basic_36 x in let y = head_first s t i j (basic x) (Function q n) k in omega arith)
+heads_function_case s t i j (function A C) (reference B) p m q n u v r e f d h k =
+    absurd (let y = head_first s t i j (reference B) (Function q n) k in omega arith)
+heads_function_case s t i j (function A C) (function B D) p m q n u v r e f d h k =
+    let x : u ≡ type_words A = e.is A (rw (function_argument (some_head h.2)) h.3) in
+    let y : v ≡ type_words B = f.is B (rw (function_argument (some_head k.2)) k.3) in (
+      λ z. words_inj A B (sym x ∙ d.0 z ∙ y),
+      λ z. d.1 (x ∙ ap type_words z ∙ sym y),
+    )
+
+pub heads_function : (s : List ℕ) (a b : Head) (p m q n : ℕ) (u v : List ℕ) (r : Bool) → a ≡ Function p m
+    → b ≡ Function q n → Named s p u → Named s q v → r ≡ pointwise eqb u v → SameHeads s a b r
+heads_function s a b p m q n u v r x y e f d = record {
+  is = λ t i j A B h k.
+      heads_function_case s t i j A B p m q n u v r e f (slice_eq-Decides Decides-eqb u v r d)
+      (subst (λ (z : Head). HeadIs s t i j A (Some z)) x h)
+      (subst (λ (z : Head). HeadIs s t i j B (Some z)) y k);
+}
 
 -- what is left to compare
-pub record Left (s t : List ℕ) (i j : ℕ) (A B : ScriptType) (p q n : ℕ) : Type 0 where
+pub record Left (s t : List ℕ) (i j : ℕ) (A B : ScriptType) (p q done : ℕ) : Type 0 where
   pub one : ScriptType
   pub two : ScriptType
   pub at_one : Means s t i j p one
   pub at_two : Means s t i j q two
-  pub small : length (type_words one) ≤ n
+  pub small : length (type_words one) + done ≤ 4096
   pub down : A ≡ B → one ≡ two
   pub up : one ≡ two → A ≡ B
 
-pub record SameSo (s t : List ℕ) (p₀ q₀ p q n : ℕ) : Type 0 where
+-- after so many heads
+pub record SameSo (s t : List ℕ) (p₀ q₀ p q done : ℕ) : Type 0 where
   pub is : (i j : ℕ) (A B : ScriptType) → Means s t i j p₀ A → Means s t i j q₀ B → length (type_words A) ≤ 4096
-      → Left s t i j A B p q n
+      → Left s t i j A B p q done
 
-pub same_start : (s t : List ℕ) (p q : ℕ) → SameSo s t p q p q 4096
+pub same_start : (s t : List ℕ) (p q : ℕ) → SameSo s t p q p q 0
 same_start s t p q =
     record {
       is = λ i j A B m n h. record
-          { one = A; two = B; at_one = m; at_two = n; small = h; down = λ e. e; up = λ e. e };
+          { one = A; two = B; at_one = m; at_two = n; small = omega arith; down = λ e. e; up = λ e. e };
     }
 
 alike_refl : (A : ScriptType) → Alike A A
@@ -193,72 +249,121 @@ reference_inj e = cc
 function_inj : {A B C D : ScriptType} → function A C ≡ function B D → C ≡ D
 function_inj e = cc
 
-left_turn : (s t : List ℕ) (i j : ℕ) (A B C D : ScriptType) (a b : Head) (n m : ℕ) → m + 1 ≡ n → 36 ≤ a.word
-    → HeadIs s t i j C a → HeadIs s t i j D b → Alike C D
-    → length (type_words C) ≤ n → (A ≡ B → C ≡ D) → (C ≡ D → A ≡ B) → Left s t i j A B a.next b.next m
+pub some_place : {m n : ℕ} → Some m ≡ Some n → m ≡ n
+some_place e = cc
+
+pub no_rest : (b : Basic) {n : ℕ} → rest_of (basic_head b) ≡ Some n → ⊥
+no_rest unit_type e = cc
+no_rest bool_type e = cc
+no_rest num_type e = cc
+no_rest rev_type e = cc
+
+left_turn : (s t : List ℕ) (i j : ℕ) (A B C D : ScriptType) (a b : Head) (p q n : ℕ) → rest_of a ≡ Some p
+    → rest_of b ≡ Some q → HeadIs s t i j C (Some a) → HeadIs s t i j D (Some b) → Alike C D
+    → length (type_words C) + n ≤ 4096 → (A ≡ B → C ≡ D) → (C ≡ D → A ≡ B) → Left s t i j A B p q (n + 1)
 unfolding HeadIs Alike type_words
-left_turn s t i j A B (basic x) D a b n m e w h k l z d u = absurd (let q = basic_36 x in omega arith)
-left_turn s t i j A B (reference C) (basic y) a b n m e w h k l z d u = absurd l
-left_turn s t i j A B (reference C) (reference D) a b n m e w h k l z d u =
-    record {
-      one = C;
-      two = D;
-      at_one = h.1;
-      at_two = k.1;
-      small = omega arith;
-      down = λ q. reference_inj
-          (d q);
-      up = λ q. u (ap reference q);
-    }
-left_turn s t i j A B (reference C) (function D F) a b n m e w h k l z d u = absurd l
-left_turn s t i j A B (function C E) (basic y) a b n m e w h k l z d u = absurd l
-left_turn s t i j A B (function C E) (reference D) a b n m e w h k l z d u = absurd l
-left_turn s t i j A B (function C E) (function D F) a b n m e w h k l z d u =
-    record {
-      one = E;
-      two = F;
-      at_one = h.2;
-      at_two = k.2;
-      small = omega (
-        arith,
-        length-append (type_words C)
-            (type_words E),
-      );
-      down = λ q. function_inj (d q);
-      up = λ q. u (ap₂ function l q);
-    }
+left_turn s t i j A B (basic x) D a b p q n v w h k l z d u = absurd (no_rest x (sym (ap rest_of (some_head h)) ∙ v))
+left_turn s t i j A B (reference C) (basic y) a b p q n v w h k l z d u = absurd l
+left_turn s t i j A B (reference C) (reference D) a b p q n v w h k l z d u = record {
+  one = C;
+  two = D;
+  at_one = rw (some_place (sym v ∙ ap rest_of (some_head h.1))) h.2;
+  at_two = rw (some_place (sym w ∙ ap rest_of (some_head k.1))) k.2;
+  small = omega arith;
+  down = λ e. reference_inj (d e);
+  up = λ e. u (ap reference e);
+}
+left_turn s t i j A B (reference C) (function D F) a b p q n v w h k l z d u = absurd l
+left_turn s t i j A B (function C E) (basic y) a b p q n v w h k l z d u = absurd l
+left_turn s t i j A B (function C E) (reference D) a b p q n v w h k l z d u = absurd l
+left_turn s t i j A B (function C E) (function D F) a b p q n v w h k l z d u = record {
+  one = E;
+  two = F;
+  at_one = rw (some_place (sym v ∙ ap rest_of (some_head h.2))) h.4;
+  at_two = rw (some_place (sym w ∙ ap rest_of (some_head k.2))) k.4;
+  small = omega (arith, length-append (type_words C) (type_words E));
+  down = λ e. function_inj (d e);
+  up = λ e. u (ap₂ function l e);
+}
+
+-- a position that stands for a type has a head
+pub is_head : (s t : List ℕ) (i j : ℕ) (A : ScriptType) (h : Option Head) → HeadIs s t i j A h → h ≡ None → ⊥
+unfolding HeadIs
+is_head s t i j (basic b) h k e = some_none (sym k ∙ e)
+is_head s t i j (reference A) h k e = some_none (sym k.1 ∙ e)
+is_head s t i j (function A B) h k e = some_none (sym k.2 ∙ e)
+
+-- a head with no rest is a basic type's
+last_head : (s t : List ℕ) (i j : ℕ) (A : ScriptType) (a : Head) → HeadIs s t i j A (Some a) → rest_of a ≡ None
+    → first A < 36
+unfolding HeadIs
+last_head s t i j (basic b) a k e = basic_36 b
+last_head s t i j (reference A) a k e = absurd (some_none (sym (ap rest_of (some_head k.1)) ∙ e))
+last_head s t i j (function A B) a k e = absurd (some_none (sym (ap rest_of (some_head k.2)) ∙ e))
 
 module _ (s t : List ℕ) (p₀ q₀ p q n : ℕ) (c : SameSo s t p₀ q₀ p q n) where
-  pub same_none : n ≤ 0 → SameTypes s t p₀ q₀ false
+  pub same_none : 4096 ≤ n → SameTypes s t p₀ q₀ false
   same_none z = record {
     is = λ i j A B m k h. let l = c.is i j A B m k h in
         absurd (omega (arith, wide l.one, l.small));
   }
 
-  module _ (a b : Head) (r : Bool) (x : Headed s t p a) (y : Headed s t q b) (d : SameHeads s a b r) where
-    like : (i j : ℕ) (A B : ScriptType) (l : Left s t i j A B p q n) → Decides (Alike l.one l.two) r
-    like i j A B l = d.is t i j l.one l.two (x.is i j l.one l.at_one) (y.is i j l.two l.at_two)
+  -- a position that stands for no type
+  pub same_nowhere : (x : Option Head) → Headed s t p x → x ≡ None → SameTypes s t p₀ q₀ false
+  same_nowhere x u z = record {
+    is = λ i j A B m k h.
+        let l = c.is i j A B m k h in
+        absurd (is_head s t i j l.one x (u.is i j l.one l.at_one) z);
+  }
+
+  pub nowhere_same : (x : Option Head) → Headed s t q x → x ≡ None → SameTypes s t p₀ q₀ false
+  nowhere_same x u z = record {
+    is = λ i j A B m k h.
+        let l = c.is i j A B m k h in
+        absurd (is_head s t i j l.two x (u.is i j l.two l.at_two) z);
+  }
+
+  module _ (x y : Option Head) (u : Headed s t p x) (v : Headed s t q y) (a b : Head) (r : Bool) (f : x ≡ Some a)
+      (g : y ≡ Some b) (d : SameHeads s a b r) where
+    head_one : (i j : ℕ) (A : ScriptType) → Means s t i j p A → HeadIs s t i j A (Some a)
+    head_one i j A m = subst (λ (z : Option Head). HeadIs s t i j A z) f (u.is i j A m)
+
+    head_two : (i j : ℕ) (A : ScriptType) → Means s t i j q A → HeadIs s t i j A (Some b)
+    head_two i j A m = subst (λ (z : Option Head). HeadIs s t i j A z) g (v.is i j A m)
+
+    like : (i j : ℕ) (A B : ScriptType) (l : Left s t i j A B p q n) → Decides r (Alike l.one l.two)
+    like i j A B l = d.is t i j l.one l.two (head_one i j l.one l.at_one) (head_two i j l.two l.at_two)
 
     pub same_unlike : r ≡ false → SameTypes s t p₀ q₀ false
     same_unlike z = record {
       is = λ i j A B m k h.
           let l = c.is i j A B m k h in
-          never (λ e. no_way (sym z ∙ (like i j A B l).complete (alike_eq l.one l.two (l.down e))));
+          never (λ e. no_way (sym z ∙ (like i j A B l).1 (alike_eq l.one l.two (l.down e))));
     }
 
-    pub same_done : r ≡ true → a.word < 36 → SameTypes s t p₀ q₀ true
+    -- a head with no rest: the last
+    pub same_done : r ≡ true → None ≡ rest_of a → SameTypes s t p₀ q₀ true
     same_done z w = record {
       is = λ i j A B m k h.
           let l = c.is i j A B m k h in
-          let f : first l.one < 36 = let g = head_first s t i j l.one a (x.is i j l.one l.at_one) in
-          omega arith in
-          always (l.up (alike_basic l.one l.two f ((like i j A B l).sound z)));
+          let o = (like i j A B l).0 z in
+          always (l.up (alike_basic l.one l.two (last_head s t i j l.one a (head_one i j l.one l.at_one) (sym w)) o));
     }
 
-    pub same_turn : 0 < n → r ≡ true → 36 ≤ a.word → SameSo s t p₀ q₀ a.next b.next (n - 1)
-    same_turn e z w = record {
-      is = λ i j A B f k h.
-          let l = c.is i j A B f k h in
-          left_turn s t i j A B l.one l.two a b n (n - 1) (omega arith) w (x.is i j l.one l.at_one)
-          (y.is i j l.two l.at_two) ((like i j A B l).sound z) l.small l.down l.up;
+    pub done_same : r ≡ true → None ≡ rest_of b → SameTypes s t p₀ q₀ true
+    done_same z w = record {
+      is = λ i j A B m k h.
+          let l = c.is i j A B m k h in
+          let o = (like i j A B l).0 z in
+          let e = last_head s t i j l.two b (head_two i j l.two l.at_two) (sym w) in
+          always (l.up (alike_basic l.one l.two (rw (alike_first l.one l.two o) e) o));
+    }
+
+    pub same_turn : (p' q' : ℕ) → r ≡ true → Some p' ≡ rest_of a → Some q' ≡ rest_of b
+        → SameSo s t p₀ q₀ p' q' (n + 1)
+    same_turn p' q' z w o = record {
+      is = λ i j A B m k h.
+          let l = c.is i j A B m k h in
+          left_turn s t i j A B l.one l.two a b p' q' n (sym w) (sym o) (head_one i j l.one l.at_one)
+          (head_two i j l.two l.at_two) ((like i j A B l).0 z) l.small l.down l.up;
     }

@@ -8,39 +8,41 @@ use native.Mathlib.Omega.{arith}
 use lib.Dec.{eqb, leb}
 use lib.ListN.{length, replicate}
 use borrow.Author.Tests.{leb-true, leb-false}
-use Rattle.typing.specs.declared.Checked.{Checked}
-use Rattle.typing.specs.declared.Checked.TheVariants.{Typed, NoRoom, NotFormed, HoldsHandle, NotClosed, NoType}
-use Rattle.typing.specs.declared.Checked.TheVariants.{LongType}
+use Rattle.std.specs.Prelude.{Ok, Err}
+use Rattle.typing.specs.declared.CheckError.{CheckError}
+use Rattle.typing.specs.declared.CheckError.TheVariants.{NoRoom, NotFormed, HoldsHandle, NotClosed, NoType, LongType}
 use Rattle.calculus.specs.Answers.{answer, script, script_of, check_answer, Answer, typed_answer, holds_long_type, refused}
 use Rattle.calculus.specs.Expressions.{Expression}
 use Rattle.calculus.specs.Numbers.{choose}
 use Rattle.calculus.specs.Types.{ScriptType}
 use Rattle.calculus.specs.Typing.{nothing, HasType, no_world, type_of}
 use Rattle.calculus.specs.Words.{type_words, words}
-use Rattle.typing.specs.Answering.{script_number, Gives}
-use Rattle.typing.specs.Checks.{number_of, length_of, CheckPromise}
+use Rattle.typing.specs.Answering.{Gives}
+use Rattle.typing.specs.Checks.{Checked, number_of, length_of, CheckPromise}
 use Rattle.calculus.proofs.Options.{none≢some}
 use Rattle.calculus.proofs.TypingRules.{types_unique, type_of_untyped, type_of_rules}
 use Rattle.typing.proofs.Scripts.{scripted}
 use Rattle.typing.proofs.Sizes.{no_long_type}
 
 -- an answer is known by its number and its length
-case_of : ℕ → ℕ → Checked
-case_of n l =
-    choose (eqb n 0) (Typed l)
-    (choose (eqb n 9) NoRoom
+error_of : ℕ → CheckError
+error_of n =
+    choose (eqb n 9) NoRoom
     (choose (eqb n 10) NotFormed
-    (choose (eqb n 11) HoldsHandle (choose (eqb n 12) NotClosed (choose (eqb n 13) NoType LongType)))))
+    (choose (eqb n 11) HoldsHandle (choose (eqb n 12) NotClosed (choose (eqb n 13) NoType LongType))))
+
+case_of : ℕ → ℕ → Checked
+case_of n l = choose (eqb n 0) (Ok l) (Err (error_of n))
 
 case_is : (r : Checked) → case_of (number_of r) (length_of r) ≡ r
-unfolding case_of
-case_is (Typed n) = refl
-case_is NoRoom = refl
-case_is NotFormed = refl
-case_is HoldsHandle = refl
-case_is NotClosed = refl
-case_is NoType = refl
-case_is LongType = refl
+unfolding case_of error_of
+case_is (Ok n) = refl
+case_is (Err NoRoom) = refl
+case_is (Err NotFormed) = refl
+case_is (Err HoldsHandle) = refl
+case_is (Err NotClosed) = refl
+case_is (Err NoType) = refl
+case_is (Err LongType) = refl
 
 case_of_lem : (r : Checked) (n l : ℕ) → number_of r ≡ n → length_of r ≡ l → r ≡ case_of n l
 case_of_lem r n l p q = sym (case_is r) ∙ ap₂ case_of p q
@@ -57,17 +59,17 @@ check_unique ws out work r r₂ o o₂ t t₂ p q = (
 pub record Exactly (e : Expression) (out : List ℕ) (r : Checked) (o : List ℕ) : Type 0 where
   -- a type that there is room for is written, and nothing else is
   pub typed : (A : ScriptType) → HasType no_world nothing e A → length (type_words A) ≤ length out
-      → (r ≡ Typed (length (type_words A))) × (o ≡ type_words A ++ replicate (length out - length (type_words A)) 0)
-  pub typed_only : (n : ℕ) → r ≡ Typed n
+      → (r ≡ Ok (length (type_words A))) × (o ≡ type_words A ++ replicate (length out - length (type_words A)) 0)
+  pub typed_only : (n : ℕ) → r ≡ Ok n
       → (A : ScriptType) × HasType no_world nothing e A × (n ≡ length (type_words A)) × (n ≤ length out)
   -- 9 for want of room
   pub no_room_lem : (A : ScriptType) → HasType no_world nothing e A → length out < length (type_words A)
-      → (r ≡ NoRoom) × (o ≡ out)
-  pub no_room_only : r ≡ NoRoom
+      → (r ≡ Err NoRoom) × (o ≡ out)
+  pub no_room_only : r ≡ Err NoRoom
       → (A : ScriptType) × HasType no_world nothing e A × (length out < length (type_words A))
   -- 13
-  pub no_type : ((A : ScriptType) → HasType no_world nothing e A → ⊥) → (r ≡ NoType) × (o ≡ out)
-  pub no_type_only : r ≡ NoType → (A : ScriptType) → HasType no_world nothing e A → ⊥
+  pub no_type : ((A : ScriptType) → HasType no_world nothing e A → ⊥) → (r ≡ Err NoType) × (o ≡ out)
+  pub no_type_only : r ≡ Err NoType → (A : ScriptType) → HasType no_world nothing e A → ⊥
 
 script_inj : (a b : Expression) → script a ≡ script b → a ≡ b
 script_inj a b e = cc
@@ -77,7 +79,7 @@ typed_by_lem : (ws : List ℕ) (e : Expression) (room : ℕ) → script_of ws �
     → check_answer ws room 8192 ≡ typed_answer room false (type_of no_world nothing e)
 unfolding check_answer
 typed_by_lem ws e room h =
-    let f = scripted ws (sym (ap script_number h)) in
+    let f = scripted ws e h in
     let g : f.tree ≡ e = script_inj f.tree e (sym f.is ∙ h) in
     let b : length (words f.tree) ≤ 2048 = omega (arith, f.few, ap length f.words) in
     let i : holds_long_type nothing f.tree ≡ false =
@@ -92,7 +94,7 @@ module _ (e : Expression) (out : List ℕ) (r : Checked) (o : List ℕ) where
 
   fits : (A : ScriptType) → HasType no_world nothing e A → length (type_words A) ≤ length out
       → Gives (answer 0 (type_words A)) out r o → Exactly e out r o
-  unfolding case_of
+  unfolding case_of error_of
   fits A t l g = record {
     typed = λ B u k.
         let z : A ≡ B = types_unique t u in
@@ -111,7 +113,7 @@ module _ (e : Expression) (out : List ℕ) (r : Checked) (o : List ℕ) where
 
   long : (A : ScriptType) → HasType no_world nothing e A → length out < length (type_words A)
       → Gives (refused 9) out r o → Exactly e out r o
-  unfolding case_of
+  unfolding case_of error_of
   long A t l g = record {
     typed = λ B u k.
         let z : length (type_words A) ≡ length (type_words B) =
@@ -125,7 +127,7 @@ module _ (e : Expression) (out : List ℕ) (r : Checked) (o : List ℕ) where
   }
 
   none_at_all : ((A : ScriptType) → HasType no_world nothing e A → ⊥) → Gives (refused 13) out r o → Exactly e out r o
-  unfolding case_of
+  unfolding case_of error_of
   none_at_all h g = record {
     typed = λ B u k. absurd (h B u);
     typed_only = λ n q. different 13 0 (λ z. omega arith) g.number (ap number_of q);

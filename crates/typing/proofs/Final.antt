@@ -9,24 +9,31 @@ use lib.Dec.{ltb, leb}
 use lib.ListN.{length, take, replicate, drop, length-replicate, get_or, get_or-replicate}
 use lib.Seq.{sets, sets-eq, take_at, length-sets}
 use borrow.Author.Tests.{lt-ltb, leb-true, leb-false, le-ltb, lt-leb, le-leb, ne_eqb, eq-eqb}
-use Rattle.typing.specs.declared.Checked.{Checked}
-use Rattle.typing.specs.declared.Checked.TheVariants.{LongType, NoRoom, Typed}
-use Rattle.typing.specs.declared.rules.Inferred.{Inferred}
-use Rattle.typing.specs.declared.rules.Inferred.TheVariants.{No, Is}
-use Rattle.calculus.specs.Answers.{Answer, check_answer, script_of, checked_from, refused, long_type, typed_answer}
+use Rattle.std.specs.Prelude.{Ok, Err, IsErr, IsErrAnd}
+use Rattle.typing.specs.declared.CheckError.{CheckError}
+use Rattle.typing.specs.declared.CheckError.TheVariants.{LongType, NoRoom, NoType}
+use Rattle.words.specs.declared.script.ScriptError.{ScriptError}
+use Rattle.words.specs.declared.script.ScriptError.TheVariants.{NotFormed, HoldsHandle, NotClosed}
+use Rattle.words.specs.Scripts.{script_number}
+use Rattle.words.specs.Buffers.{Cleared}
+use Rattle.calculus.specs.Answers.{Answer, check_answer, script, no_script, script_of, checked_from, refused, long_type, typed_answer}
+use Rattle.calculus.specs.Expressions.{Expression}
 use Rattle.calculus.specs.Types.{ScriptType}
 use Rattle.calculus.specs.Typing.{nothing}
 use Rattle.calculus.specs.Words.{words, type_words}
-use Rattle.typing.specs.Answering.{PutType, Answered, script_number, Gives, Refuses}
-use Rattle.typing.specs.Checks.{CheckPromise}
+use Rattle.typing.specs.Answering.{PutType, Answered, Gives}
+use Rattle.typing.specs.Checks.{CheckPromise, Checked, error_number, of_script}
 use Rattle.typing.specs.Held.{Means, Small}
 use Rattle.typing.specs.Inferring.{Infers, Stands}
-use Rattle.typing.specs.Rulings.{Noted}
+use Rattle.typing.specs.Rulings.{Noted, Inferred, typed}
 use Rattle.typing.specs.Writing.{WroteType}
 use Rattle.calculus.proofs.Options.{none≢some}
 use Rattle.typing.proofs.Children.{child_refused, child}
-use Rattle.typing.proofs.Scripts.{unscripted, scripted, Scripted}
+use Rattle.typing.proofs.Scripts.{scripted, Scripted}
 use Rattle.typing.proofs.Sizes.{no_long_type}
+
+error_inj : {a b : CheckError} → ◌≡◌ {A = Inferred} (Err a) (Err b) → a ≡ b
+error_inj e = cc
 
 none_of : (l : List ℕ) → length l ≡ 0 → l ≡ []
 none_of [] e = refl
@@ -37,7 +44,7 @@ module _ (s t : List ℕ) (p : ℕ) (o pt part : List ℕ) (n : ℕ) (z : length
   same : pt ++ o ≡ o
   same = ap (λ (l : List ℕ). l ++ o) (none_of pt z)
 
-  pub put_long : 4096 < n → PutType s t p o LongType (pt ++ o)
+  pub put_long : 4096 < n → PutType s t p o (Err LongType) (pt ++ o)
   put_long h = record {
     gives = λ i j A m.
         let k : ltb 4096 (length (type_words A)) ≡ true =
@@ -70,7 +77,7 @@ module _ (s t : List ℕ) (p : ℕ) (o pt part : List ℕ) (n : ℕ) (z : length
     count : (i j : ℕ) (A : ScriptType) → Means s t i j p A → n ≡ length (type_words A)
     count i j A m = w.end i j A m (small i j A m)
 
-    pub put_no_room : length (pt ++ o) < n → PutType s t p o NoRoom (pt ++ o)
+    pub put_no_room : length (pt ++ o) < n → PutType s t p o (Err NoRoom) (pt ++ o)
     put_no_room u = record {
       gives = λ i j A m.
           let k = not_long i j A m in
@@ -81,7 +88,7 @@ module _ (s t : List ℕ) (p : ℕ) (o pt part : List ℕ) (n : ℕ) (z : length
     }
 
     pub put_done : (o₂ o₃ : List ℕ) (n₂ : ℕ) → n ≤ length (pt ++ o) → WroteType s t p (pt ++ o) n₂ o₂
-        → o₃ ≡ take n o₂ ++ replicate (length o₂ - n) 0 → PutType s t p o (Typed n) o₃
+        → Cleared o₂ n o₃ → PutType s t p o (Ok n) o₃
     put_done o₂ o₃ n₂ u v e = record {
       gives = λ i j A m.
           let k = not_long i j A m in
@@ -91,7 +98,7 @@ module _ (s t : List ℕ) (p : ℕ) (o pt part : List ℕ) (n : ℕ) (z : length
           record {
             number = rw (k, l) refl;
             size = rw (k, l) (count i j A m);
-            written = e ∙ whole i j A m ∙ rw (k, l) refl;
+            written = e.zeros ∙ whole i j A m ∙ rw (k, l) refl;
           };
     }
       where
@@ -117,12 +124,12 @@ module _ (s t : List ℕ) (p : ℕ) (o pt part : List ℕ) (n : ℕ) (z : length
 
 -- the check, one law for each way through it
 module _ (ws o t : List ℕ) where
-  pub answer_work : (length t ≡ 8192 → ⊥) → Answered ws o t NoRoom o
+  pub answer_work : (length t ≡ 8192 → ⊥) → Answered ws o t (Err NoRoom) o
   unfolding check_answer
   answer_work h = let k = ne_eqb (length t) 8192 h in
       record { gives = record { number = rw k refl; size = rw k refl; written = rw k refl } }
 
-  module _ (h : length t ≡ 8192) (n : ℕ) (q : n ≡ script_number (script_of ws)) where
+  module _ (h : length t ≡ 8192) where
     checked : check_answer ws (length o) (length t) ≡ checked_from (length o) (script_of ws)
     unfolding check_answer
     checked = rw (eq-eqb (length t) 8192 h) refl
@@ -135,21 +142,29 @@ module _ (ws o t : List ℕ) where
     above : (n : ℕ) → 9 ≤ n → leb n 1 ≡ false
     above n l = lt-leb n 1 (omega arith)
 
-    refusal : (m : ℕ) (r : Checked) → 9 ≤ m → m ≤ 14 → Refuses m r → Gives (refused m) o r o
-    refusal m r l u f = record { number = f.number l u; size = f.size; written = rw (above m l) refl }
+    refusal : (e : CheckError) → 9 ≤ error_number e → Gives (refused (error_number e)) o (Err e) o
+    refusal e l = record { number = refl; size = refl; written = rw (above (error_number e) l) refl }
 
-    pub answer_no_script : (r : Checked) → (n ≡ 0 → ⊥) → Refuses n r → Answered ws o t r o
-    answer_no_script r k f =
-        let u = unscripted ws n q k in
-        answered (refused n) r o (rw u.is refl) (refusal n r u.low u.high f)
+    high : (k : ScriptError) → (9 ≤ error_number (of_script k)) × (error_number (of_script k) ≡ script_number k)
+    high NotFormed = (omega arith, refl)
+    high HoldsHandle = (omega arith, refl)
+    high NotClosed = (omega arith, refl)
 
-    module _ (k : n ≡ 0) (t₁ t₂ : List ℕ) (x : Inferred) (a : t₁ ≡ replicate (length t - 0) 0)
+    -- a test of the script failed, and `?` returned the error
+    pub answer_no_script : (k : ScriptError) (r : Checked) → script_of ws ≡ no_script (script_number k)
+        → IsErr r × IsErrAnd r (λ e. e ≡ of_script k) → Answered ws o t r o
+    answer_no_script k (Ok n) q f = absurd f.1
+    answer_no_script k (Err e) q f =
+        let (l, u) = high k in
+        answered (refused (error_number (of_script k))) (Err e) o (rw (q, u) refl) (rw f.1 (refusal (of_script k) l))
+
+    module _ (e : Expression) (q : script_of ws ≡ script e) (t₁ t₂ : List ℕ) (x : Inferred) (a : Cleared t 0 t₁)
         (c : Infers ws 0 (length ws) t₁ x t₂) where
       found : Scripted ws
-      found = scripted ws (sym k ∙ q)
+      found = scripted ws e q
 
       empty : t₁ ≡ replicate 8192 0
-      empty = let z : length t - 0 ≡ 8192 = omega arith in a ∙ ap (λ (m : ℕ). replicate m 0) z
+      empty = let z : length t - 0 ≡ 8192 = omega arith in a.zeros ∙ ap (λ (m : ℕ). replicate m 0) z
 
       stands : Stands ws t₁ 0 (length ws) found.tree nothing
       unfolding Noted
@@ -166,13 +181,16 @@ module _ (ws o t : List ℕ) where
                 ∙ get_or-replicate {A = ℕ} 8192 (2048 + y) 0 0 (omega arith);
           }
 
-      pub answer_no_type : (m : ℕ) (r : Checked) → x ≡ No m → Refuses m r → Answered ws o t r o
-      answer_no_type m r w f =
-          let (u, v) = child_refused ws t₁ t₂ 0 (length ws) x found.tree nothing c stands m w in
-          let e : m ≡ 13 = cc in
-          answered (refused m) r o (rw (found.is, u, e) refl) (refusal m r (omega arith) (omega arith) f)
+      -- no type was found, and `?` returned the error
+      pub answer_no_type : (k : CheckError) (r : Checked) → x ≡ Err k → IsErr r × IsErrAnd r (λ e. e ≡ k)
+          → Answered ws o t r o
+      answer_no_type k (Ok n) w f = absurd f.1
+      answer_no_type k (Err e) w f =
+          let (u, v) = child_refused ws t₁ t₂ 0 (length ws) x found.tree nothing c stands k w in
+          let z : e ≡ NoType = f.1 ∙ error_inj (sym w ∙ v) in
+          rw z (answered (refused 13) (Err NoType) o (rw (found.is, u) refl) (refusal NoType (omega arith)))
 
-      pub answer_type : (p d : ℕ) (r : Checked) (o' : List ℕ) → x ≡ Is p d → PutType ws t₂ p o r o'
+      pub answer_type : (p d : ℕ) (r : Checked) (o' : List ℕ) → x ≡ typed p d → PutType ws t₂ p o r o'
           → Answered ws o t r o'
       answer_type p d r o' w u =
           let f = found in
@@ -185,17 +203,17 @@ module _ (ws o t : List ℕ) where
           (subst (λ (b : Bool). Gives (typed_answer (length o) b (some g.type)) o r o') l
           (u.gives 0 d g.type g.means))
 
--- a script that the check may infer the type of has at most 2,048 words
-pub script_few : (ws : List ℕ) (n : ℕ) → n ≡ script_number (script_of ws) → n ≡ 0 → length ws ≤ 2048
-script_few ws n q k = (scripted ws (sym k ∙ q)).few
+-- a script has at most 2,048 words
+pub script_few : (ws : List ℕ) (e : Expression) → script_of ws ≡ script e → length ws ≤ 2048
+script_few ws e q = (scripted ws e q).few
 
 pub promised : (ws o t t₁ t₂ : List ℕ) (r : Checked) (o' : List ℕ) → length t₁ ≡ length t → Answered ws o t r o'
-    → t₂ ≡ replicate (length t₁ - 0) 0 → CheckPromise ws o t r o' t₂
+    → Cleared t₁ 0 t₂ → CheckPromise ws o t r o' t₂
 promised ws o t t₁ t₂ r o' l g e =
     let z : length t₁ - 0 ≡ length t = omega arith in
     record {
       number = g.gives.number;
       size = g.gives.size;
       written = g.gives.written;
-      cleared = e ∙ ap (λ (m : ℕ). replicate m 0) z;
+      cleared = e.zeros ∙ ap (λ (m : ℕ). replicate m 0) z;
     }

@@ -10,8 +10,6 @@ use lib.Dec.{eqb}
 use lib.ListN.{set, get_or, length, length-append, length-set, drop}
 use lib.Seq.{get_or-set_other, get_or-set_same}
 use borrow.Author.Tests.{ne_eqb, eq-eqb, eqb-true, eqb-false}
-use Rattle.typing.specs.declared.rules.Inferred.{Inferred}
-use Rattle.typing.specs.declared.rules.Inferred.TheVariants.{Is}
 use Rattle.calculus.specs.Expressions.{lambda, Expression, one, One, ref, read, fork, join, two, Two, apply, assign}
 use Rattle.calculus.specs.Expressions.{arithmetic, add, subtract, less, if}
 use Rattle.calculus.specs.Formed.{Formed}
@@ -21,7 +19,7 @@ use Rattle.calculus.specs.Typing.{Assignment, bind}
 use Rattle.calculus.specs.Words.{words, type_words}
 use Rattle.typing.specs.Held.{Written}
 use Rattle.typing.specs.Inferring.{words_all, FormedAll, Stands, Infers, First, Keeps}
-use Rattle.typing.specs.Rulings.{Enters, entered, ended, Noted}
+use Rattle.typing.specs.Rulings.{Inferred, typed, Enters, entered, ended, Noted}
 use Rattle.typing.proofs.Children.{child}
 use Rattle.typing.proofs.Ends.{written_in}
 use Rattle.typing.proofs.Fronts.{front, Front, past}
@@ -98,7 +96,7 @@ module _ (s t t₁ : List ℕ) (at p left : ℕ) (h : length s ≤ 2048) (n : En
       scope = rw untouched d.scope;
     }
 
-    pub other_first : (t₂ t₃ : List ℕ) (x : Inferred) (i f : ℕ) → x ≡ Is i f → Infers s p (left - 1) t₁ x t₂
+    pub other_first : (t₂ t₃ : List ℕ) (x : Inferred) (i f : ℕ) → x ≡ typed i f → Infers s p (left - 1) t₁ x t₂
         → t₃ ≡ ended s at i t₂ → First s t at f (left - 1) t₃ e Γ a Γ es i
     unfolding ended other_stands
     other_first t₂ t₃ x i f q c z =
@@ -226,7 +224,7 @@ module _ (s t t₁ : List ℕ) (at p left : ℕ) (h : length s ≤ 2048) (n : En
             (at_1 (2048 + y) (λ z. eqb-false y x q (omega arith)) (λ z. omega (arith, l.inside, l.start)))
             (d.scope y u)
 
-    pub lambda_first : (t₂ t₃ : List ℕ) (z : Inferred) (i f : ℕ) → z ≡ Is i f → Infers s p (left - 1) t₁ z t₂
+    pub lambda_first : (t₂ t₃ : List ℕ) (z : Inferred) (i f : ℕ) → z ≡ typed i f → Infers s p (left - 1) t₁ z t₂
         → t₃ ≡ ended s at i t₂ → First s t at f (left - 1) t₃ (lambda x A e) Γ e (bind x A Γ) [] i
     unfolding ended words
     lambda_first t₂ t₃ z i f q c g =

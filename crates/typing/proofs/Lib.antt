@@ -1,9 +1,10 @@
 -- The laws that the proofs of this crate's functions share, in reading order.
 pub mod Fronts
 pub mod Copies
+pub mod TagWords
 pub mod Ends
-pub mod Meaning
 pub mod Equality
+pub mod Meaning
 pub mod Rulings
 pub mod Nodes
 pub mod Output

@@ -1,23 +1,38 @@
 -- What a position stands for: the frame, and the head of a type.
 use Prim.Native.Nat.{◌-◌, ℕ, ◌≤◌, ◌<◌, ◌+◌}
 use mathlib.Core.List.{List, ◌++◌, append_assoc, [], append-nil}
-use mathlib.Core.Logic.{inl, inr}
-use mathlib.Core.Path.{◌≡◌, ◌∙◌, ap, refl, sym}
+use mathlib.Core.Option.{some, none}
+use mathlib.Core.Logic.{◌⊎◌, inl, inr}
+use mathlib.Core.Path.{◌≡◌, ◌∙◌, ap, refl, sym, subst}
 use native.Mathlib.Omega.{arith}
 use lib.ListN.{get_or, length, drop, get_or-eq_default, take, length-drop}
 use lib.Seq.{take_all}
+use Rattle.std.specs.Prelude.{Option, Some, None}
 use Rattle.typing.specs.declared.types.Head.{Head}
-use Rattle.words.specs.declared.walk.Walk.{Walk}
-use Rattle.words.specs.declared.walk.Walk.TheVariants.{Ends, Broken}
+use Rattle.typing.specs.declared.types.Head.TheVariants.{Unit as UnitHead, Bool as BoolHead, Number, Rev, Reference}
+use Rattle.typing.specs.declared.types.Head.TheVariants.{Function}
+use Rattle.words.specs.declared.tags.Tag.{Tag}
+use Rattle.words.specs.declared.tags.Tag.TheVariants.{Unit as UnitNode, False, True, Number as NumberNode, Variable}
+use Rattle.words.specs.declared.tags.Tag.TheVariants.{Location, Revision, Lambda, Apply, If, Ref, Read, Assign, Fork}
+use Rattle.words.specs.declared.tags.Tag.TheVariants.{Join, Add, Subtract, Less}
+use Rattle.words.specs.declared.tags.TypeTag.{TypeTag}
+use Rattle.words.specs.declared.tags.TypeTag.TheVariants.{Unit as UnitTag, Bool as BoolTag, Number as NumberTag}
+use Rattle.words.specs.declared.tags.TypeTag.TheVariants.{Rev as RevTag, Reference as ReferenceTag}
+use Rattle.words.specs.declared.tags.TypeTag.TheVariants.{Function as FunctionTag}
+use Rattle.words.specs.Tags.{word_of, type_word_of}
 use Rattle.calculus.specs.Reading.{type_end}
 use Rattle.calculus.specs.Tags.{type_tag_word, basic_tag}
-use Rattle.calculus.specs.Types.{ScriptType, basic, reference, function, Basic}
+use Rattle.calculus.specs.Types.{ScriptType, basic, reference, function, Basic, unit_type, bool_type, num_type, rev_type}
 use Rattle.calculus.specs.Words.{type_words}
 use Rattle.words.specs.Walks.{walk_of}
-use Rattle.typing.specs.Held.{Annotated, Means, Written, HeadAt, HeadIs, HeadIn, basic_of, Headed, basic_words}
+use Rattle.typing.specs.Held.{Annotated, Means, Written, HeadAt, HeadIs, HeadIn, basic_of, Headed, basics}
+use Rattle.typing.specs.Held.{basic_head, head_if}
 use Rattle.typing.specs.Held.{Named}
-use Rattle.typing.proofs.Ends.{basic_32, basic_36, ends_of, broken_none}
-use Rattle.typing.proofs.Fronts.{front, past, inside}
+use Rattle.calculus.proofs.Options.{none≢some}
+use Rattle.typing.proofs.Equality.{basic_inj}
+use Rattle.typing.proofs.TagWords.{same_tag, word_below}
+use Rattle.typing.proofs.Ends.{basic_32, basic_36, ends_of, ends_nowhere}
+use Rattle.typing.proofs.Fronts.{front, past}
 
 -- a change elsewhere changes no type, and a wider range serves
 frame_annotated : (s t t' : List ℕ) (i j i' j' : ℕ) → i' ≤ i → j ≤ j'
@@ -77,61 +92,141 @@ written_word s p (reference A) w = rw (front s p _ _ w.is).tag (omega arith)
 written_word s p (function A B) w = rw (front s p _ _ w.is).tag (omega arith)
 
 -- the head of a written type
-head_written_is : (s t : List ℕ) (i j p : ℕ) (A : ScriptType) (h : Head) → Written s p A → HeadAt p A h
+head_written_is : (s t : List ℕ) (i j p : ℕ) (A : ScriptType) (h : Option Head) → Written s p A → HeadAt p A h
     → HeadIs s t i j A h
 unfolding HeadAt HeadIs
 head_written_is s t i j p (basic b) h w k = k
 head_written_is s t i j p (reference A) h w k =
-    (k.0, rw k.1 (written s t i j (p + 1) A (reference_part s p A w)))
+    (p + 1, k, written s t i j (p + 1) A (reference_part s p A w))
 head_written_is s t i j p (function A B) h w k =
     let (a, b) = function_parts s p A B w in
-    (k.0, rw k.1 a, rw k.2 (written s t i j (p + 1 + length (type_words A)) B b))
+    (p + 1, p + 1 + length (type_words A), k, a, written s t i j (p + 1 + length (type_words A)) B b)
 
 -- a head, read from the words of the type
 module _ (ws : List ℕ) (p w : ℕ) (e : w ≡ get_or ws 0 0) where
-  pub in_reference : w ≡ 36 → HeadIn ws p (record { word = 36; argument = 0; next = p + 1 })
+  reference_in : w ≡ 36 → HeadIn ws p (Some (Reference (p + 1)))
   unfolding HeadAt type_words
-  in_reference h = record { is = go }
+  reference_in h = record { is = go }
     where
-      go : (A : ScriptType) → Written ws 0 A → HeadAt p A (record { word = 36; argument = 0; next = p + 1 })
+      go : (A : ScriptType) → Written ws 0 A → HeadAt p A (Some (Reference (p + 1)))
       go (basic b) v = absurd (let z = basic_36 b in omega (arith, (front ws 0 _ _ v.is).tag))
-      go (reference A) v = (refl, refl)
+      go (reference A) v = refl
       go (function A B) v = absurd (omega (arith, (front ws 0 _ _ v.is).tag))
 
-  pub in_function : (x : Walk) (d : ℕ) → w ≡ 37 → x ≡ walk_of (type_end ws 1) → x ≡ Ends d
-      → HeadIn ws p (record { word = 37; argument = p + 1; next = p + d })
+  function_in : (d : ℕ) → w ≡ 37 → Some d ≡ walk_of (type_end ws 1)
+      → HeadIn ws p (Some (Function (p + 1) (p + d)))
   unfolding HeadAt type_words
-  in_function x d h q r = record { is = go }
+  function_in d h q = record { is = go }
     where
-      go : (A : ScriptType) → Written ws 0 A → HeadAt p A (record { word = 37; argument = p + 1; next = p + d })
+      go : (A : ScriptType) → Written ws 0 A → HeadAt p A (Some (Function (p + 1) (p + d)))
       go (basic b) v = absurd (let z = basic_36 b in omega (arith, (front ws 0 _ _ v.is).tag))
       go (reference A) v = absurd (omega (arith, (front ws 0 _ _ v.is).tag))
       go (function A B) v =
           let (a, b) = function_parts ws 0 A B v in
-          let z : d ≡ 1 + length (type_words A) = ends_of ws 1 x q d r A a in
-          (refl, refl, omega arith)
+          let z : d ≡ 1 + length (type_words A) = ends_of ws 1 d q A a in
+          ap (λ (n : ℕ). Some (Function (p + 1) n)) (omega arith)
 
-  pub in_broken : (x : Walk) (r : Head) → w ≡ 37 → x ≡ walk_of (type_end ws 1) → x ≡ Broken → HeadIn ws p r
+  broken_in : (r : Option Head) → w ≡ 37 → None ≡ walk_of (type_end ws 1) → HeadIn ws p r
   unfolding HeadAt type_words
-  in_broken x r h q b = record { is = go }
+  broken_in r h q = record { is = go }
     where
       go : (A : ScriptType) → Written ws 0 A → HeadAt p A r
       go (basic c) v = absurd (let z = basic_36 c in omega (arith, (front ws 0 _ _ v.is).tag))
       go (reference A) v = absurd (omega (arith, (front ws 0 _ _ v.is).tag))
-      go (function A B) v = absurd (broken_none ws 1 x q b A (function_parts ws 0 A B v).0)
+      go (function A B) v = absurd (ends_nowhere ws 1 q A (function_parts ws 0 A B v).0)
 
-  pub in_basic : (w ≡ 36 → ⊥) → (w ≡ 37 → ⊥) → HeadIn ws p (record { word = w; argument = 0; next = 0 })
+  basic_in : (b : Basic) → w ≡ type_tag_word (basic_tag b) → HeadIn ws p (Some (basic_head b))
   unfolding HeadAt type_words
-  in_basic a b = record { is = go }
+  basic_in b h = record { is = go }
     where
-      go : (A : ScriptType) → Written ws 0 A → HeadAt p A (record { word = w; argument = 0; next = 0 })
-      go (basic c) v = e ∙ (front ws 0 _ _ v.is).tag
-      go (reference A) v = absurd (a (e ∙ (front ws 0 _ _ v.is).tag))
-      go (function A B) v = absurd (b (e ∙ (front ws 0 _ _ v.is).tag))
+      go : (A : ScriptType) → Written ws 0 A → HeadAt p A (Some (basic_head b))
+      go (basic c) v = ap (λ (x : Basic). Some (basic_head x)) (basic_inj b c (sym h ∙ e ∙ (front ws 0 _ _ v.is).tag))
+      go (reference A) v = absurd (let z = basic_36 b in omega (arith, (front ws 0 _ _ v.is).tag))
+      go (function A B) v = absurd (let z = basic_36 b in omega (arith, (front ws 0 _ _ v.is).tag))
 
--- a word that is not 0 stands in the words
-pub inside_of : (s : List ℕ) (p w : ℕ) → w ≡ get_or s p 0 → (w ≡ 0 → ⊥) → p < length s
-inside_of s p w e h = inside s p (λ z. h (e ∙ z))
+  pub in_nothing : (w < 32) ⊎ (38 ≤ w) → (r : Option Head) → HeadIn ws p r
+  unfolding HeadAt type_words
+  in_nothing h r = record { is = λ A v. absurd (go A v h) }
+    where
+      go : (A : ScriptType) → Written ws 0 A → (w < 32) ⊎ (38 ≤ w) → ⊥
+      go A v (inl k) = omega (arith, written_word ws 0 A v)
+      go (basic c) v (inr k) = let z = basic_36 c in omega (arith, (front ws 0 _ _ v.is).tag)
+      go (reference A) v (inr k) = omega (arith, (front ws 0 _ _ v.is).tag)
+      go (function A B) v (inr k) = omega (arith, (front ws 0 _ _ v.is).tag)
+
+  -- by the type's tag
+  module _ (g : TypeTag) (q : type_word_of g ≡ w) where
+    word : (h : TypeTag) → g ≡ h → w ≡ type_word_of h
+    word h z = sym q ∙ ap type_word_of z
+
+    pub in_unit : g ≡ UnitTag → HeadIn ws p (Some UnitHead)
+    in_unit z = basic_in unit_type (word UnitTag z)
+
+    pub in_bool : g ≡ BoolTag → HeadIn ws p (Some BoolHead)
+    in_bool z = basic_in bool_type (word BoolTag z)
+
+    pub in_number : g ≡ NumberTag → HeadIn ws p (Some Number)
+    in_number z = basic_in num_type (word NumberTag z)
+
+    pub in_rev : g ≡ RevTag → HeadIn ws p (Some Rev)
+    in_rev z = basic_in rev_type (word RevTag z)
+
+    pub in_reference : g ≡ ReferenceTag → HeadIn ws p (Some (Reference (p + 1)))
+    in_reference z = reference_in (word ReferenceTag z)
+
+    pub in_function : (d : ℕ) → g ≡ FunctionTag → Some d ≡ walk_of (type_end ws 1)
+        → HeadIn ws p (Some (Function (p + 1) (p + d)))
+    in_function d z = function_in d (word FunctionTag z)
+
+    pub in_broken : (r : Option Head) → g ≡ FunctionTag → None ≡ walk_of (type_end ws 1) → HeadIn ws p r
+    in_broken r z = broken_in r (word FunctionTag z)
+
+-- the basic type of a node, by its tag
+pub unit_tags : (g : Tag) → (g ≡ UnitNode) ⊎ ((g ≡ Assign) ⊎ (g ≡ Join)) → Some UnitHead ≡ head_if (basic_of (word_of g))
+unfolding basic_of
+unit_tags g (inl e) = rw e refl
+unit_tags g (inr (inl e)) = rw e refl
+unit_tags g (inr (inr e)) = rw e refl
+
+pub bool_tags : (g : Tag) → (g ≡ False) ⊎ ((g ≡ True) ⊎ (g ≡ Less)) → Some BoolHead ≡ head_if (basic_of (word_of g))
+unfolding basic_of
+bool_tags g (inl e) = rw e refl
+bool_tags g (inr (inl e)) = rw e refl
+bool_tags g (inr (inr e)) = rw e refl
+
+pub number_tags : (g : Tag) → (g ≡ NumberNode) ⊎ ((g ≡ Add) ⊎ (g ≡ Subtract))
+    → Some Number ≡ head_if (basic_of (word_of g))
+unfolding basic_of
+number_tags g (inl e) = rw e refl
+number_tags g (inr (inl e)) = rw e refl
+number_tags g (inr (inr e)) = rw e refl
+
+pub rev_tag : (g : Tag) → g ≡ Fork → Some Rev ≡ head_if (basic_of (word_of g))
+unfolding basic_of
+rev_tag g e = rw e refl
+
+pub other_tags : (g : Tag) → (g ≡ UnitNode → ⊥) → (g ≡ False → ⊥) → (g ≡ True → ⊥) → (g ≡ NumberNode → ⊥)
+    → (g ≡ Assign → ⊥) → (g ≡ Fork → ⊥) → (g ≡ Join → ⊥) → (g ≡ Add → ⊥) → (g ≡ Subtract → ⊥) → (g ≡ Less → ⊥)
+    → None ≡ head_if (basic_of (word_of g))
+unfolding basic_of
+other_tags UnitNode a b c d e f h i j k = absurd (a refl)
+other_tags False a b c d e f h i j k = absurd (b refl)
+other_tags True a b c d e f h i j k = absurd (c refl)
+other_tags NumberNode a b c d e f h i j k = absurd (d refl)
+other_tags Variable a b c d e f h i j k = refl
+other_tags Location a b c d e f h i j k = refl
+other_tags Revision a b c d e f h i j k = refl
+other_tags Lambda a b c d e f h i j k = refl
+other_tags Apply a b c d e f h i j k = refl
+other_tags If a b c d e f h i j k = refl
+other_tags Ref a b c d e f h i j k = refl
+other_tags Read a b c d e f h i j k = refl
+other_tags Assign a b c d e f h i j k = absurd (e refl)
+other_tags Fork a b c d e f h i j k = absurd (f refl)
+other_tags Join a b c d e f h i j k = absurd (h refl)
+other_tags Add a b c d e f h i j k = absurd (i refl)
+other_tags Subtract a b c d e f h i j k = absurd (j refl)
+other_tags Less a b c d e f h i j k = absurd (k refl)
 
 -- a head, by the tag
 module _ (s t : List ℕ) (p w : ℕ) (e : w ≡ get_or s p 0) where
@@ -139,64 +234,57 @@ module _ (s t : List ℕ) (p w : ℕ) (e : w ≡ get_or s p 0) where
   not_annotated i j A h k (inl m) = omega (arith, written_word s p A m)
   not_annotated i j A h k (inr m) = k (e ∙ m.0)
 
-  no_basic : (b : Basic) → basic_of w ≡ 0 → basic_of (get_or s p 0) ≡ type_tag_word (basic_tag b) → ⊥
-  no_basic b q z =
-      let x = basic_32 b in
-      let y : 0 ≡ type_tag_word (basic_tag b) = sym q ∙ ap basic_of e ∙ z in
-      omega arith
+  no_basic : (b : Basic) → basic_of w ≡ none → basic_of (get_or s p 0) ≡ some b → ⊥
+  no_basic b q z = none≢some (sym q ∙ ap basic_of e ∙ z)
 
-  pub head_lambda : (n : ℕ) → w ≡ 7 → n ≡ get_or t p 0
-      → Headed s t p (record { word = 37; argument = p + 2; next = n })
+  lambda_head : (n : ℕ) → w ≡ 7 → n ≡ get_or t p 0 → Headed s t p (Some (Function (p + 2) n))
   unfolding Means HeadIs basic_of
-  head_lambda n h q = record { is = go }
+  lambda_head n h q = record { is = go }
     where
       not : (i j : ℕ) (A : ScriptType) → Annotated s t i j p A → ⊥
       not i j A = not_annotated i j A (omega arith) (λ z. omega arith)
 
-      go : (i j : ℕ) (A : ScriptType) → Means s t i j p A
-          → HeadIs s t i j A (record { word = 37; argument = p + 2; next = n })
+      go : (i j : ℕ) (A : ScriptType) → Means s t i j p A → HeadIs s t i j A (Some (Function (p + 2) n))
       go i j (basic b) (inl m) = absurd (not i j _ m)
       go i j (basic b) (inr m) = absurd (no_basic b (rw h refl) m)
       go i j (reference A) (inl m) = absurd (not i j _ m)
       go i j (reference A) (inr m) = absurd (omega (arith, m.0))
       go i j (function A B) (inl m) = absurd (not i j _ m)
-      go i j (function A B) (inr m) = (refl, m.3, rw q m.4)
+      go i j (function A B) (inr m) = (p + 2, n, refl, m.3, rw q m.4)
 
-  pub head_ref : (n : ℕ) → w ≡ 10 → n ≡ get_or t p 0 → Headed s t p (record { word = 36; argument = 0; next = n })
+  ref_head : (n : ℕ) → w ≡ 10 → n ≡ get_or t p 0 → Headed s t p (Some (Reference n))
   unfolding Means HeadIs basic_of
-  head_ref n h q = record { is = go }
+  ref_head n h q = record { is = go }
     where
       not : (i j : ℕ) (A : ScriptType) → Annotated s t i j p A → ⊥
       not i j A = not_annotated i j A (omega arith) (λ z. omega arith)
 
-      go : (i j : ℕ) (A : ScriptType) → Means s t i j p A
-          → HeadIs s t i j A (record { word = 36; argument = 0; next = n })
+      go : (i j : ℕ) (A : ScriptType) → Means s t i j p A → HeadIs s t i j A (Some (Reference n))
       go i j (basic b) (inl m) = absurd (not i j _ m)
       go i j (basic b) (inr m) = absurd (no_basic b (rw h refl) m)
       go i j (reference A) (inl m) = absurd (not i j _ m)
-      go i j (reference A) (inr m) = (refl, rw q m.3)
+      go i j (reference A) (inr m) = (n, refl, rw q m.3)
       go i j (function A B) (inl m) = absurd (not i j _ m)
       go i j (function A B) (inr m) = absurd (omega (arith, m.0))
 
-  pub head_basic : (n : ℕ) → w < 32 → (w ≡ 4 → ⊥) → (w ≡ 7 → ⊥) → (w ≡ 10 → ⊥) → n ≡ basic_of w
-      → Headed s t p (record { word = n; argument = 0; next = 0 })
+  basic_head_of : (h : Option Head) → w < 32 → (w ≡ 4 → ⊥) → (w ≡ 7 → ⊥) → (w ≡ 10 → ⊥) → h ≡ head_if (basic_of w)
+      → Headed s t p h
   unfolding Means HeadIs
-  head_basic n k a b c q = record { is = go }
+  basic_head_of h k a b c q = record { is = go }
     where
-      go : (i j : ℕ) (A : ScriptType) → Means s t i j p A
-          → HeadIs s t i j A (record { word = n; argument = 0; next = 0 })
+      go : (i j : ℕ) (A : ScriptType) → Means s t i j p A → HeadIs s t i j A h
       go i j (basic d) (inl m) = absurd (not_annotated i j _ k a m)
-      go i j (basic d) (inr m) = q ∙ ap basic_of e ∙ m
+      go i j (basic d) (inr m) = q ∙ ap head_if (ap basic_of e ∙ m)
       go i j (reference A) (inl m) = absurd (not_annotated i j _ k a m)
       go i j (reference A) (inr m) = absurd (c (e ∙ m.0))
       go i j (function A B) (inl m) = absurd (not_annotated i j _ k a m)
       go i j (function A B) (inr m) = absurd (b (e ∙ m.0))
 
-  high_basic : 32 ≤ w → basic_of w ≡ 0
+  high_basic : 18 ≤ w → basic_of w ≡ none
   unfolding basic_of
-  high_basic h = get_or-eq_default basic_words 0 {n = w} (omega arith)
+  high_basic h = get_or-eq_default basics none {n = w} (omega arith)
 
-  head_type : (h : Head) → 32 ≤ w → HeadIn (drop p s) p h → Headed s t p h
+  head_type : (h : Option Head) → 18 ≤ w → HeadIn (drop p s) p h → Headed s t p h
   unfolding Means
   head_type h k u = record { is = go }
     where
@@ -212,14 +300,16 @@ module _ (s t : List ℕ) (p w : ℕ) (e : w ≡ get_or s p 0) where
       go i j (function A B) (inl m) = taken i j _ m
       go i j (function A B) (inr m) = absurd (omega (arith, m.0))
 
-  pub head_part : (h : Head) → 32 ≤ w → HeadIn (take (length s - p) (drop p s)) p h → Headed s t p h
-  head_part h k u =
-      head_type h k (rw (take_all (length s - p) (drop p s) (omega (arith, length-drop p s))) at u)
+  pub head_part : (h : Option Head) (part : List ℕ) → 18 ≤ w → part ≡ take (length s - p) (drop p s) → HeadIn part p h
+      → Headed s t p h
+  head_part h part k e u =
+      head_type h k
+      (subst (λ (l : List ℕ). HeadIn l p h) (e ∙ take_all (length s - p) (drop p s) (omega (arith, length-drop p s))) u)
 
-  pub head_variable : (h : Head) (n : ℕ) (ws : List ℕ) → w ≡ 4 → n ≡ get_or t p 0 → Named s (get_or t p 0) ws
+  variable_head : (h : Option Head) (n : ℕ) (ws : List ℕ) → w ≡ 4 → n ≡ get_or t p 0 → Named s (get_or t p 0) ws
       → HeadIn ws n h → Headed s t p h
   unfolding Means basic_of
-  head_variable h n ws k q v u = record { is = go }
+  variable_head h n ws k q v u = record { is = go }
     where
       taken : (i j : ℕ) (A : ScriptType) → Annotated s t i j p A → HeadIs s t i j A h
       taken i j A (inl m) = absurd (omega (arith, written_word s p A m))
@@ -234,3 +324,21 @@ module _ (s t : List ℕ) (p w : ℕ) (e : w ≡ get_or s p 0) where
       go i j (reference A) (inr m) = absurd (omega (arith, m.0))
       go i j (function A B) (inl m) = taken i j _ m
       go i j (function A B) (inr m) = absurd (omega (arith, m.0))
+
+  module _ (g : Tag) (q : word_of g ≡ w) where
+    pub head_lambda : (n : ℕ) → g ≡ Lambda → n ≡ get_or t p 0 → Headed s t p (Some (Function (p + 2) n))
+    head_lambda n z = lambda_head n (sym q ∙ ap word_of z)
+
+    pub head_ref : (n : ℕ) → g ≡ Ref → n ≡ get_or t p 0 → Headed s t p (Some (Reference n))
+    head_ref n z = ref_head n (sym q ∙ ap word_of z)
+
+    pub head_variable : (h : Option Head) (n : ℕ) (ws : List ℕ) → g ≡ Variable → n ≡ get_or t p 0 → Named s n ws
+        → HeadIn ws n h → Headed s t p h
+    head_variable h n ws z k v u =
+        variable_head h n ws (sym q ∙ ap word_of z) k (subst (λ (m : ℕ). Named s m ws) k v) u
+
+    pub head_basic : (h : Option Head) → (g ≡ Variable → ⊥) → (g ≡ Lambda → ⊥) → (g ≡ Ref → ⊥)
+        → h ≡ head_if (basic_of (word_of g)) → Headed s t p h
+    head_basic h a b c d =
+        basic_head_of h (omega (arith, word_below g)) (λ z. a (same_tag g Variable (q ∙ z)))
+        (λ z. b (same_tag g Lambda (q ∙ z))) (λ z. c (same_tag g Ref (q ∙ z))) (d ∙ ap (λ (n : ℕ). head_if (basic_of n)) q)

@@ -2,25 +2,31 @@
 use Prim.Native.Nat.{◌-◌, ℕ, ◌+◌, ◌≤◌, suc, ◌<◌}
 use mathlib.Core.Bool.{Bool, cond, true, false}
 use mathlib.Core.List.{List, [], ◌∷◌, ◌++◌}
-use mathlib.Core.Logic.{inl, inr}
-use mathlib.Core.Option.{Option, none, some}
+use mathlib.Core.Logic.{◌⊎◌, inl, inr}
+use mathlib.Core.Option.{Option as Maybe, none, some}
 use mathlib.Core.Path.{◌≡◌, refl, ap, ◌∙◌, subst, sym}
 use native.Mathlib.Omega.{arith}
 use lib.Dec.{eqb}
 use lib.ListN.{get_or, length, set, length-set}
-use Rattle.typing.specs.declared.rules.Inferred.{Inferred}
-use Rattle.typing.specs.declared.rules.Inferred.TheVariants.{No, Is}
+use Rattle.std.specs.Prelude.{Some, None, Err}
+use Rattle.typing.specs.declared.CheckError.{CheckError}
+use Rattle.typing.specs.declared.CheckError.TheVariants.{NoType, NotFormed}
 use Rattle.words.specs.declared.table.Row.{Row}
+use Rattle.words.specs.declared.tags.Tag.{Tag}
+use Rattle.words.specs.declared.tags.Tag.TheVariants.{If as IfTag}
+use Rattle.words.specs.Tags.{word_of}
+use Rattle.typing.proofs.TagWords.{same_tag}
 use Rattle.calculus.specs.Expressions.{one, Expression, constant, leaf, lambda, two, if, Two, apply, assign}
-use Rattle.calculus.specs.Expressions.{arithmetic, add, subtract, less}
+use Rattle.calculus.specs.Expressions.{arithmetic, add, subtract, less, unit, bool, number, variable, location, revision}
+use Rattle.calculus.specs.Expressions.{ref, read, fork, join}
 use Rattle.calculus.specs.Formed.{Formed}
-use Rattle.calculus.specs.Tags.{tag_word, constant_tag, Tag, leaf_tag, lambda_tag, one_tag, two_tag, if_tag, largest}
+use Rattle.calculus.specs.Tags.{tag_word, constant_tag, Tag as NodeTag, leaf_tag, lambda_tag, one_tag, two_tag, if_tag, largest}
 use Rattle.calculus.specs.Types.{ScriptType}
 use Rattle.calculus.specs.Typing.{Assignment, type_of, no_world, leaf_type, bind}
 use Rattle.calculus.specs.Words.{type_words, words}
 use Rattle.words.specs.Rows.{row_of, tag_row}
 use Rattle.typing.specs.Inferring.{Stands, Infers, Keeps, Kept, Settled, First, Goes}
-use Rattle.typing.specs.Rulings.{Answers, Leafs, entered, note_at, ended, Enters, RuleOne, RuleTwo, RuleThree}
+use Rattle.typing.specs.Rulings.{Inferred, typed, Answers, Leafs, entered, note_at, ended, Enters, RuleOne, RuleTwo, RuleThree}
 use Rattle.calculus.proofs.Reading.{tag_of_tag_word}
 use Rattle.typing.proofs.Children.{next, child_refused, next_stands, Next}
 use Rattle.typing.proofs.Firsts.{Branch, other_stands, lambda_stands, branch_one, branch_two, branch_if}
@@ -61,36 +67,41 @@ child_count (one o e) = 1
 child_count (two o a b) = 2
 child_count (if a b c) = 3
 
-children_tag : (g : Tag) → row_of (tag_word g) ≡ tag_row g
-unfolding row_of
-children_tag g = rw (tag_of_tag_word g) refl
+no_row : {a : Row} → None ≡ Some a → ⊥
+no_row e = cc
 
-children_is : (e : Expression) → (row_of (tag_of_e e)).children ≡ child_count e
+some_row : {a b : Row} → Some a ≡ Some b → a ≡ b
+some_row e = cc
+
+row_of_tag : (g : NodeTag) → row_of (tag_word g) ≡ Some (tag_row g)
+unfolding row_of
+row_of_tag g = rw (tag_of_tag_word g) refl
+
+children_is : (e : Expression) (n : Row) → Some n ≡ row_of (tag_of_e e) → n.children ≡ child_count e
 unfolding tag_of_e
-children_is (constant c) = ap (λ (r : Row). r.children) (children_tag (constant_tag c))
-children_is (leaf k n) = ap (λ (r : Row). r.children) (children_tag (leaf_tag k))
-children_is (lambda x A e) = ap (λ (r : Row). r.children) (children_tag lambda_tag)
-children_is (one o e) = ap (λ (r : Row). r.children) (children_tag (one_tag o))
-children_is (two o a b) = ap (λ (r : Row). r.children) (children_tag (two_tag o))
-children_is (if a b c) = ap (λ (r : Row). r.children) (children_tag if_tag)
+children_is (constant c) n q = ap (λ (r : Row). r.children) (some_row (q ∙ row_of_tag (constant_tag c)))
+children_is (leaf k m) n q = ap (λ (r : Row). r.children) (some_row (q ∙ row_of_tag (leaf_tag k)))
+children_is (lambda x A e) n q = ap (λ (r : Row). r.children) (some_row (q ∙ row_of_tag lambda_tag))
+children_is (one o e) n q = ap (λ (r : Row). r.children) (some_row (q ∙ row_of_tag (one_tag o)))
+children_is (two o a b) n q = ap (λ (r : Row). r.children) (some_row (q ∙ row_of_tag (two_tag o)))
+children_is (if a b c) n q = ap (λ (r : Row). r.children) (some_row (q ∙ row_of_tag if_tag))
 
 front_of_lem : (s t : List ℕ) (at left : ℕ) (e : Expression) (Γ : Assignment) (d : Stands s t at left e Γ)
     → Front s at (tag_of_e e) (tail_of e ++ d.rest)
 front_of_lem s t at left e Γ d = front s at _ _ (d.is ∙ ap (λ (l : List ℕ). l ++ d.rest) (split e))
 
-stands_children : (s t : List ℕ) (at left n : ℕ) (e : Expression) (Γ : Assignment) → n ≡ (row_of (get_or s at 0)).children
-    → Stands s t at left e Γ → n ≡ child_count e
-stands_children s t at left n e Γ q d =
-    q ∙ ap (λ (w : ℕ). (row_of w).children) (front_of_lem s t at left e Γ d).tag ∙ children_is e
+stands_children : (s t : List ℕ) (at left : ℕ) (n : Row) (e : Expression) (Γ : Assignment)
+    → Some n ≡ row_of (get_or s at 0) → Stands s t at left e Γ → n.children ≡ child_count e
+stands_children s t at left n e Γ q d = children_is e n (q ∙ ap row_of (front_of_lem s t at left e Γ d).tag)
 
 -- nothing stands there
-pub infer_past : (s t : List ℕ) (at left : ℕ) → length s ≤ at → Infers s at left t (No 10) t
+infer_past : (s t : List ℕ) (at left : ℕ) → length s ≤ at → Infers s at left t (Err NotFormed) t
 infer_past s t at left h = record {
   room = refl;
   settles = λ e Γ d. absurd (omega (arith, (front_of_lem s t at left e Γ d).size));
 }
 
-pub infer_spent : (s t : List ℕ) (at left : ℕ) → left ≡ 0 → Infers s at left t (No 10) t
+infer_spent : (s t : List ℕ) (at left : ℕ) → left ≡ 0 → Infers s at left t (Err NotFormed) t
 infer_spent s t at left h = record {
   room = refl;
   settles = λ e Γ d.
@@ -98,13 +109,61 @@ infer_spent s t at left h = record {
       absurd (omega (arith, d.few));
 }
 
-kept_any : (i j : ℕ) (t t' : List ℕ) (o : Option ScriptType) → Keeps i j t t' → Kept i j t t' o
+pub infer_nothing : (s t : List ℕ) (at left : ℕ) → (length s ≤ at) ⊎ ((at < length s) × (left ≡ 0))
+    → Infers s at left t (Err NotFormed) t
+infer_nothing s t at left (inl h) = infer_past s t at left h
+infer_nothing s t at left (inr h) = infer_spent s t at left h.1
+
+tag_low : (e : Expression) → tag_of_e e < 18
+unfolding tag_of_e
+tag_low (constant unit) = omega arith
+tag_low (constant (bool false)) = omega arith
+tag_low (constant (bool true)) = omega arith
+tag_low (leaf number n) = omega arith
+tag_low (leaf variable n) = omega arith
+tag_low (leaf location n) = omega arith
+tag_low (leaf revision n) = omega arith
+tag_low (lambda x A e) = omega arith
+tag_low (one ref e) = omega arith
+tag_low (one read e) = omega arith
+tag_low (one fork e) = omega arith
+tag_low (one join e) = omega arith
+tag_low (two apply a b) = omega arith
+tag_low (two assign a b) = omega arith
+tag_low (two (arithmetic add) a b) = omega arith
+tag_low (two (arithmetic subtract) a b) = omega arith
+tag_low (two (arithmetic less) a b) = omega arith
+tag_low (if a b c) = omega arith
+
+row_there : (e : Expression) → None ≡ row_of (tag_of_e e) → ⊥
+unfolding tag_of_e
+row_there (constant c) q = no_row (q ∙ row_of_tag (constant_tag c))
+row_there (leaf k m) q = no_row (q ∙ row_of_tag (leaf_tag k))
+row_there (lambda x A e) q = no_row (q ∙ row_of_tag lambda_tag)
+row_there (one o e) q = no_row (q ∙ row_of_tag (one_tag o))
+row_there (two o a b) q = no_row (q ∙ row_of_tag (two_tag o))
+row_there (if a b c) q = no_row (q ∙ row_of_tag if_tag)
+
+-- a word that is no tag
+pub infer_rowless : (s t : List ℕ) (at left : ℕ) → None ≡ row_of (get_or s at 0) → Infers s at left t (Err NotFormed) t
+infer_rowless s t at left h = record {
+  room = refl;
+  settles = λ e Γ d. absurd (row_there e (h ∙ ap row_of (front_of_lem s t at left e Γ d).tag));
+}
+
+pub infer_untagged : (s t : List ℕ) (at left : ℕ) → 18 ≤ get_or s at 0 → Infers s at left t (Err NotFormed) t
+infer_untagged s t at left h = record {
+  room = refl;
+  settles = λ e Γ d. absurd (let l = tag_low e in omega (arith, (front_of_lem s t at left e Γ d).tag));
+}
+
+kept_any : (i j : ℕ) (t t' : List ℕ) (o : Maybe ScriptType) → Keeps i j t t' → Kept i j t t' o
 kept_any i j t t' none k = tt
 kept_any i j t t' (some A) k = k
 
 module _ (s : List ℕ) (at : ℕ) (e : Expression) (Γ : Assignment) (t : List ℕ) (r : Inferred) (t' : List ℕ) where
   -- a refusal, and an answer
-  refuse : (type_of no_world Γ e ≡ none) × (r ≡ No 13) → Settled s at e Γ t r t'
+  refuse : (type_of no_world Γ e ≡ none) × (r ≡ Err NoType) → Settled s at e Γ t r t'
   unfolding Answers
   refuse (a, b) = record { is = rw a b; kept = rw a tt }
 
@@ -117,7 +176,7 @@ module _ (s : List ℕ) (at : ℕ) (e : Expression) (Γ : Assignment) (t : List 
         (subst (λ (g : ℕ). Keeps at g t t') q u);
   }
 
-pub infer_leaf : (s t t' : List ℕ) (at left n : ℕ) (r : Inferred) → n ≡ (row_of (get_or s at 0)).children → n ≡ 0
+pub infer_leaf : (s t t' : List ℕ) (at left : ℕ) (n : Row) (r : Inferred) → Some n ≡ row_of (get_or s at 0) → n.children ≡ 0
     → Leafs s at t r t' → Infers s at left t r t'
 unfolding words Formed type_of tag_of_e tail_of
 infer_leaf s t t' at left n r q z l = record {
@@ -135,7 +194,7 @@ infer_leaf s t t' at left n r q z l = record {
     keep j h k (inl o) = l.keeps k (λ z. omega arith)
     keep j h k (inr o) = l.keeps k (λ z. omega arith)
 
-    go : (e : Expression) (Γ : Assignment) (d : Stands s t at left e Γ) → n ≡ child_count e
+    go : (e : Expression) (Γ : Assignment) (d : Stands s t at left e Γ) → n.children ≡ child_count e
         → Front s at (tag_of_e e) (tail_of e ++ d.rest) → Answers s t' at (at + length (words e)) r (type_of no_world Γ e)
     go (constant c) Γ d k g = l.constants c g.tag
     go (leaf k m) Γ d u g =
@@ -166,13 +225,13 @@ length_ended s t at a = go (eqb (get_or s at 0) 7)
     go false = simp length-set
 
 -- the first child
-module _ (s t t₁ t₂ : List ℕ) (at p left n : ℕ) (x : Inferred) (h : length s ≤ 2048)
-    (q : n ≡ (row_of (get_or s at 0)).children) (z : n ≡ 0 → ⊥) (en : Enters s at t p t₁)
+module _ (s t t₁ t₂ : List ℕ) (at p left : ℕ) (n : Row) (x : Inferred) (h : length s ≤ 2048)
+    (q : Some n ≡ row_of (get_or s at 0)) (z : n.children ≡ 0 → ⊥) (en : Enters s at t p t₁)
     (c : Infers s p (left - 1) t₁ x t₂) where
   long₂ : length t₂ ≡ length t
   long₂ = c.room ∙ ap length en.table ∙ length_entered s t at
 
-  pub infer_no : (m : ℕ) → x ≡ No m → Infers s at left t x t₂
+  pub infer_no : (m : CheckError) → x ≡ Err m → Infers s at left t x t₂
   unfolding type_of
   infer_no m w = record {
     room = long₂;
@@ -180,12 +239,12 @@ module _ (s t t₁ t₂ : List ℕ) (at p left n : ℕ) (x : Inferred) (h : leng
   }
     where
       other : (e : Expression) (Γ : Assignment) (w' : ℕ) (a : Expression) (es : List Expression) → Branch e w' a es
-          → Stands s t at left e Γ → (type_of no_world Γ a ≡ none) × (x ≡ No 13)
+          → Stands s t at left e Γ → (type_of no_world Γ a ≡ none) × (x ≡ Err NoType)
       other e Γ w' a es b d =
           child_refused s t₁ t₂ p (left - 1) x a Γ c (other_stands s t t₁ at p left h en e w' a es Γ b d) m w
 
-      go : (e : Expression) (Γ : Assignment) → Stands s t at left e Γ → n ≡ child_count e
-          → (type_of no_world Γ e ≡ none) × (x ≡ No 13)
+      go : (e : Expression) (Γ : Assignment) → Stands s t at left e Γ → n.children ≡ child_count e
+          → (type_of no_world Γ e ≡ none) × (x ≡ Err NoType)
       go (constant k) Γ d i = absurd (z i)
       go (leaf k v) Γ d i = absurd (z i)
       go (lambda v A e) Γ d i =
@@ -196,7 +255,7 @@ module _ (s t t₁ t₂ : List ℕ) (at p left n : ℕ) (x : Inferred) (h : leng
       go (two o e f) Γ d i = let (a, b) = other (two o e f) Γ _ e (f ∷ []) (branch_two o e f) d in (rw a, b)
       go (if e f g) Γ d i = let (a, b) = other (if e f g) Γ _ e (f ∷ g ∷ []) (branch_if e f g) d in (rw a, b)
 
-  module _ (a f : ℕ) (t₃ : List ℕ) (w : x ≡ Is a f) (en₃ : t₃ ≡ ended s at a t₂) where
+  module _ (a f : ℕ) (t₃ : List ℕ) (w : x ≡ typed a f) (en₃ : t₃ ≡ ended s at a t₂) where
     long₃ : length t₃ ≡ length t
     long₃ = ap length en₃ ∙ length_ended s t₂ at a ∙ long₂
 
@@ -204,14 +263,14 @@ module _ (s t t₁ t₂ : List ℕ) (at p left n : ℕ) (x : Inferred) (h : leng
         → Stands s t at left e Γ → First s t at f (left - 1) t₃ e Γ d Γ es a
     other e Γ w' d es b k = other_first s t t₁ at p left h en e w' d es Γ b k t₂ t₃ x a f w c en₃
 
-    pub infer_one : (r : Inferred) → n ≡ 1 → RuleOne s t₃ at a f r → Infers s at left t r t₃
+    pub infer_one : (r : Inferred) → n.children ≡ 1 → RuleOne s t₃ at a f r → Infers s at left t r t₃
     unfolding type_of tag_of_e
     infer_one r k u = record {
       room = long₃;
       settles = λ e Γ d. go e Γ d (stands_children s t at left n e Γ q d) (front_of_lem s t at left e Γ d).tag;
     }
       where
-        go : (e : Expression) (Γ : Assignment) → Stands s t at left e Γ → n ≡ child_count e → get_or s at 0 ≡ tag_of_e e
+        go : (e : Expression) (Γ : Assignment) → Stands s t at left e Γ → n.children ≡ child_count e → get_or s at 0 ≡ tag_of_e e
             → Settled s at e Γ t r t₃
         go (constant k) Γ d i g = absurd (z i)
         go (leaf k v) Γ d i g = absurd (z i)
@@ -229,7 +288,7 @@ module _ (s t t₁ t₂ : List ℕ) (at p left n : ℕ) (x : Inferred) (h : leng
         go (two o e f) Γ d i g = absurd (omega arith)
         go (if e f g) Γ d i j = absurd (omega arith)
 
-    pub infer_more : (r : Inferred) (t₄ : List ℕ) → (n ≡ 1 → ⊥) → Goes s at (left - 1) t₃ f r t₄
+    pub infer_more : (r : Inferred) (t₄ : List ℕ) → (n.children ≡ 1 → ⊥) → Goes s at (left - 1) t₃ f r t₄
         → Infers s at left t r t₄
     unfolding tag_of_e
     infer_more r t₄ z₁ u = record {
@@ -237,7 +296,7 @@ module _ (s t t₁ t₂ : List ℕ) (at p left n : ℕ) (x : Inferred) (h : leng
       settles = λ e Γ d. go e Γ d (stands_children s t at left n e Γ q d) (front_of_lem s t at left e Γ d).tag;
     }
       where
-        go : (e : Expression) (Γ : Assignment) → Stands s t at left e Γ → n ≡ child_count e → get_or s at 0 ≡ tag_of_e e
+        go : (e : Expression) (Γ : Assignment) → Stands s t at left e Γ → n.children ≡ child_count e → get_or s at 0 ≡ tag_of_e e
             → Settled s at e Γ t r t₄
         go (constant k) Γ d i g = absurd (z i)
         go (leaf k v) Γ d i g = absurd (z i)
@@ -248,7 +307,7 @@ module _ (s t t₁ t₂ : List ℕ) (at p left n : ℕ) (x : Inferred) (h : leng
 
 -- the others
 module _ (s t₃ t₄ : List ℕ) (at f left : ℕ) (y : Inferred) (h : length s ≤ 2048) (c : Infers s f left t₃ y t₄) where
-  pub others_no : (m : ℕ) → y ≡ No m → Goes s at left t₃ f y t₄
+  pub others_no : (m : CheckError) → y ≡ Err m → Goes s at left t₃ f y t₄
   unfolding type_of
   others_no m w = record { room = c.room; two = two_no; three = three_no }
     where
@@ -266,7 +325,7 @@ module _ (s t₃ t₄ : List ℕ) (at f left : ℕ) (y : Inferred) (h : length s
           let (j, l) = child_refused s t₃ t₄ f left y b Γ c k m w in
           refuse s at (if a b d) Γ t y t₄ (rw (F.typed, j), l)
 
-  module _ (b g v : ℕ) (w : y ≡ Is b g) (i : v ≡ get_or s at 0) where
+  module _ (b g : ℕ) (w : y ≡ typed b g) (v : Tag) (i : word_of v ≡ get_or s at 0) where
     second : (e d : Expression) (es : List Expression) (Γ : Assignment) (t : List ℕ) (a : Expression) (p : ℕ)
         → First s t at f left t₃ e Γ a Γ (d ∷ es) p
         → Next s t at f g left t₃ t₄ Γ d es b (at + length (words e))
@@ -280,9 +339,9 @@ module _ (s t₃ t₄ : List ℕ) (at f left : ℕ) (y : Inferred) (h : length s
     not_if (arithmetic subtract) z = omega arith
     not_if (arithmetic less) z = omega arith
 
-    pub others_two : (r : Inferred) → (v ≡ 9 → ⊥) → RuleTwo s t₄ at b g r → Goes s at left t₃ f r t₄
+    pub others_two : (r : Inferred) → (v ≡ IfTag → ⊥) → RuleTwo s t₄ at b g r → Goes s at left t₃ f r t₄
     unfolding type_of
-    others_two r z u = record { room = c.room; two = go; three = λ a d l Γ t p k F. absurd (z (i ∙ k)) }
+    others_two r z u = record { room = c.room; two = go; three = λ a d l Γ t p k F. absurd (z (same_tag v IfTag (i ∙ k))) }
       where
         go : (o : Two) (a d : Expression) (Γ : Assignment) (t : List ℕ) (p : ℕ) → get_or s at 0 ≡ tag_word (two_tag o)
             → First s t at f left t₃ (two o a d) Γ a Γ (d ∷ []) p → Settled s at (two o a d) Γ t r t₄
@@ -294,14 +353,14 @@ module _ (s t₃ t₄ : List ℕ) (at f left : ℕ) (y : Inferred) (h : length s
             (rw (N.link ∙ F.link) (N.old p F.type F.means))
             N.means))
 
-    module _ (t₅ : List ℕ) (x : Inferred) (z : v ≡ 9) (c₃ : Infers s g left t₄ x t₅) where
+    module _ (t₅ : List ℕ) (x : Inferred) (z : v ≡ IfTag) (c₃ : Infers s g left t₄ x t₅) where
       room₅ : length t₅ ≡ length t₃
       room₅ = c₃.room ∙ c.room
 
       no_two : {A : Type 0} (o : Two) → get_or s at 0 ≡ tag_word (two_tag o) → A
-      no_two o k = absurd (not_if o (sym k ∙ sym i ∙ z))
+      no_two o k = absurd (not_if o (sym k ∙ sym i ∙ ap word_of z))
 
-      pub others_no_three : (m : ℕ) → x ≡ No m → Goes s at left t₃ f x t₅
+      pub others_no_three : (m : CheckError) → x ≡ Err m → Goes s at left t₃ f x t₅
       unfolding type_of
       others_no_three m q = record { room = room₅; two = λ o a d Γ t p k F. no_two o k; three = go }
         where
@@ -313,7 +372,7 @@ module _ (s t₃ t₄ : List ℕ) (at f left : ℕ) (y : Inferred) (h : length s
               let (j, n) = child_refused s t₄ t₅ g left x l Γ c₃ e m q in
               refuse s at (if a d l) Γ t x t₅ (rw (F.typed, N.typed, j), n)
 
-      pub others_three : (n e : ℕ) (r : Inferred) → x ≡ Is n e → RuleThree s t₅ at b n e r → Goes s at left t₃ f r t₅
+      pub others_three : (n e : ℕ) (r : Inferred) → x ≡ typed n e → RuleThree s t₅ at b n e r → Goes s at left t₃ f r t₅
       unfolding type_of
       others_three n e r q u = record { room = room₅; two = λ o a d Γ t p k F. no_two o k; three = go }
         where

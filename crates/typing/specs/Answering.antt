@@ -1,10 +1,9 @@
--- The steps of the check on the way to its answer: the tests of a script, a refusal, and a type written out.
-use Rattle.std.specs.Prelude.{ℕ, ◌≤◌, List, ◌≡◌, length}
+-- The steps of the check on the way to its answer: a type written out, and the answer itself.
+use Rattle.std.specs.Prelude.{ℕ, List, ◌≡◌, length}
 use Rattle.std.proofs.Math.Option.{some}
-use Rattle.typing.specs.declared.Checked.{Checked}
-use Rattle.calculus.specs.Answers.{script, Answer, out_after, check_answer, Script, no_script, typed_answer, long_type}
+use Rattle.calculus.specs.Answers.{Answer, out_after, check_answer, typed_answer, long_type}
 use Rattle.calculus.specs.Types.{ScriptType}
-use Rattle.typing.specs.Checks.{number_of, length_of}
+use Rattle.typing.specs.Checks.{Checked, number_of, length_of}
 use Rattle.typing.specs.Held.{Means}
 
 -- an answer and the out buffer after it are those of calculus
@@ -15,16 +14,6 @@ pub record Gives (a : Answer) (out : List ℕ) (r : Checked) (out' : List ℕ) :
 
 pub record Answered (ws out work : List ℕ) (r : Checked) (out' : List ℕ) : Type 0 where
   pub gives : Gives (check_answer ws (length out) (length work)) out r out'
-
--- 0 for a script, and else the number of its refusal
-abbrev pub script_number : Script → ℕ
-script_number (script e) = 0
-script_number (no_script n) = n
-
--- the refusal with the number n, from 9 to 14
-pub record Refuses (n : ℕ) (r : Checked) : Type 0 where
-  pub number : 9 ≤ n → n ≤ 14 → number_of r ≡ n
-  pub size : length_of r ≡ 0
 
 -- the type that is held at p: 14 where it is long, 9 where there is no room for it
 pub record PutType (s t : List ℕ) (p : ℕ) (out : List ℕ) (r : Checked) (out' : List ℕ) : Type 0 where

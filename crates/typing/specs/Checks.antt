@@ -1,27 +1,37 @@
 -- The check's answer (01, "What comes back" and "The check"): the number and the length of each case, and the promise.
-use Rattle.std.specs.Prelude.{ℕ, List, ◌≡◌, length}
-use Rattle.typing.specs.declared.Checked.{Checked}
-use Rattle.typing.specs.declared.Checked.TheVariants.{Typed, NoRoom, NotFormed, HoldsHandle, NotClosed, NoType}
-use Rattle.typing.specs.declared.Checked.TheVariants.{LongType}
+use Rattle.std.specs.Prelude.{ℕ, List, ◌≡◌, length, Result, Ok, Err}
+use Rattle.typing.specs.declared.CheckError.{CheckError}
+use Rattle.typing.specs.declared.CheckError.TheVariants.{NoRoom, NotFormed, HoldsHandle, NotClosed, NoType, LongType}
+use Rattle.words.specs.declared.script.ScriptError.{ScriptError}
+use Rattle.words.specs.declared.script.ScriptError.TheVariants.{NotFormed as NotFormedScript}
+use Rattle.words.specs.declared.script.ScriptError.TheVariants.{HoldsHandle as HoldsHandleScript}
+use Rattle.words.specs.declared.script.ScriptError.TheVariants.{NotClosed as NotClosedScript}
 use Rattle.calculus.specs.Answers.{check_answer, out_after, work_after}
 
+abbrev pub Checked : Type 0
+Checked = Result ℕ CheckError
+
+abbrev pub error_number : CheckError → ℕ
+error_number NoRoom = 9
+error_number NotFormed = 10
+error_number HoldsHandle = 11
+error_number NotClosed = 12
+error_number NoType = 13
+error_number LongType = 14
+
 abbrev pub number_of : Checked → ℕ
-number_of (Typed n) = 0
-number_of NoRoom = 9
-number_of NotFormed = 10
-number_of HoldsHandle = 11
-number_of NotClosed = 12
-number_of NoType = 13
-number_of LongType = 14
+number_of (Ok n) = 0
+number_of (Err e) = error_number e
 
 abbrev pub length_of : Checked → ℕ
-length_of (Typed n) = n
-length_of NoRoom = 0
-length_of NotFormed = 0
-length_of HoldsHandle = 0
-length_of NotClosed = 0
-length_of NoType = 0
-length_of LongType = 0
+length_of (Ok n) = n
+length_of (Err e) = 0
+
+-- why words are no script, as the check answers it
+abbrev pub of_script : ScriptError → CheckError
+of_script NotFormedScript = NotFormed
+of_script HoldsHandleScript = HoldsHandle
+of_script NotClosedScript = NotClosed
 
 -- the promise: the answer, and what is in the out buffer and in the work buffer after it
 pub record CheckPromise (ws out work : List ℕ) (r : Checked) (out' work' : List ℕ) : Type 0 where

@@ -1,17 +1,52 @@
 -- Types held as positions: what a position p of the script s stands for, with the table t of links.
-use Rattle.std.specs.Prelude.{◌-◌, ℕ, ◌+◌, ◌≤◌, ◌<◌, Bool, true, List, ◌∷◌, [], ◌++◌, ◌⊎◌, ◌≡◌, get_or, drop, length}
+use Rattle.std.specs.Prelude.{ℕ, ◌+◌, ◌-◌, ◌≤◌, ◌<◌, Bool, List, ◌∷◌, [], ◌++◌, ◌⊎◌, ◌≡◌, get_or, drop, length, Option}
+use Rattle.std.specs.Prelude.{Some, None}
+use Rattle.std.specs.Bool.{Decides}
+use Rattle.std.proofs.Math.Option.{Option as Maybe, some, none}
 use Rattle.typing.specs.declared.types.Head.{Head}
-use Rattle.calculus.specs.Tags.{type_tag_word, basic_tag}
-use Rattle.calculus.specs.Types.{basic, ScriptType, reference, function}
+use Rattle.typing.specs.declared.types.Head.TheVariants.{Unit as UnitHead, Bool as BoolHead, Number, Rev, Reference}
+use Rattle.typing.specs.declared.types.Head.TheVariants.{Function}
+use Rattle.calculus.specs.Types.{Basic, unit_type, bool_type, num_type, rev_type, basic, ScriptType, reference, function}
 use Rattle.calculus.specs.Words.{type_words}
+use Rattle.words.specs.declared.tags.TypeTag.{TypeTag}
+use Rattle.words.specs.declared.tags.TypeTag.TheVariants.{Unit as UnitTag, Bool as BoolTag, Number as NumberTag, Rev as RevTag}
+use Rattle.words.specs.declared.tags.TypeTag.TheVariants.{Reference as ReferenceTag, Function as FunctionTag}
 
--- the word of the basic type that a node with this tag has, or 0 where its type is none or depends on its children
-abbrev pub basic_words : List ℕ
-basic_words =
-    32 ∷ 33 ∷ 33 ∷ 34 ∷ 0 ∷ 0 ∷ 0 ∷ 0 ∷ 0 ∷ 0 ∷ 0 ∷ 0 ∷ 32 ∷ 35 ∷ 32 ∷ 34 ∷ 34 ∷ 33 ∷ []
+-- a head's tag, and where the rest of the type is held
+abbrev pub tag_of : Head → TypeTag
+tag_of UnitHead = UnitTag
+tag_of BoolHead = BoolTag
+tag_of Number = NumberTag
+tag_of Rev = RevTag
+tag_of (Reference n) = ReferenceTag
+tag_of (Function m n) = FunctionTag
 
-unfoldable pub basic_of : ℕ → ℕ
-basic_of w = get_or basic_words w 0
+abbrev pub rest_of : Head → Option ℕ
+rest_of UnitHead = None
+rest_of BoolHead = None
+rest_of Number = None
+rest_of Rev = None
+rest_of (Reference n) = Some n
+rest_of (Function m n) = Some n
+
+abbrev pub basic_head : Basic → Head
+basic_head unit_type = UnitHead
+basic_head bool_type = BoolHead
+basic_head num_type = Number
+basic_head rev_type = Rev
+
+abbrev pub head_if : Maybe Basic → Option Head
+head_if none = None
+head_if (some b) = Some (basic_head b)
+
+-- the basic type of a node by its tag, if it has one whatever its children are
+abbrev pub basics : List (Maybe Basic)
+basics =
+    some unit_type ∷ some bool_type ∷ some bool_type ∷ some num_type ∷ none ∷ none ∷ none ∷ none ∷ none ∷ none ∷ none
+    ∷ none ∷ some unit_type ∷ some rev_type ∷ some unit_type ∷ some num_type ∷ some num_type ∷ some bool_type ∷ []
+
+unfoldable pub basic_of : ℕ → Maybe Basic
+basic_of w = get_or basics w none
 
 -- the words of A stand at p
 pub record Written (s : List ℕ) (p : ℕ) (A : ScriptType) : Type 0 where
@@ -31,34 +66,30 @@ Annotated s t i j p A =
 -- what the position p stands for; the links that this goes through are those of the nodes from i up to j
 unfoldable pub Means : List ℕ → List ℕ → ℕ → ℕ → ℕ → ScriptType → Type 0
 Means s t i j p (basic b) =
-    Annotated s t i j p (basic b) ⊎ (basic_of (get_or s p 0) ≡ type_tag_word (basic_tag b))
+    Annotated s t i j p (basic b) ⊎ (basic_of (get_or s p 0) ≡ some b)
 Means s t i j p (reference A) =
     Annotated s t i j p (reference A) ⊎ ((get_or s p 0 ≡ 10) × (i ≤ p) × (p < j) × Means s t i j (get_or t p 0) A)
 Means s t i j p (function A B) =
     Annotated s t i j p (function A B)
     ⊎ ((get_or s p 0 ≡ 7) × (i ≤ p) × (p < j) × Written s (p + 2) A × Means s t i j (get_or t p 0) B)
 
--- the head of a type that is written at p: its first word, and where its parts stand
-unfoldable pub HeadAt : ℕ → ScriptType → Head → Type 0
-HeadAt p (basic b) r = r.word ≡ type_tag_word (basic_tag b)
-HeadAt p (reference A) r = (r.word ≡ 36) × (r.next ≡ p + 1)
-HeadAt p (function A B) r = (r.word ≡ 37) × (r.argument ≡ p + 1) × (r.next ≡ p + 1 + length (type_words A))
+-- the head of a type that is written at p: where its parts stand
+unfoldable pub HeadAt : ℕ → ScriptType → Option Head → Type 0
+HeadAt p (basic b) h = h ≡ Some (basic_head b)
+HeadAt p (reference A) h = h ≡ Some (Reference (p + 1))
+HeadAt p (function A B) h = h ≡ Some (Function (p + 1) (p + 1 + length (type_words A)))
 
-pub record HeadIn (ws : List ℕ) (p : ℕ) (r : Head) : Type 0 where
-  pub is : (A : ScriptType) → Written ws 0 A → HeadAt p A r
+pub record HeadIn (ws : List ℕ) (p : ℕ) (h : Option Head) : Type 0 where
+  pub is : (A : ScriptType) → Written ws 0 A → HeadAt p A h
 
--- a type's first word, where its argument stands, and the position of what is left of it
-unfoldable pub HeadIs : List ℕ → List ℕ → ℕ → ℕ → ScriptType → Head → Type 0
-HeadIs s t i j (basic b) r = r.word ≡ type_tag_word (basic_tag b)
-HeadIs s t i j (reference A) r = (r.word ≡ 36) × Means s t i j r.next A
-HeadIs s t i j (function A B) r = (r.word ≡ 37) × Written s r.argument A × Means s t i j r.next B
+-- the head of a type: where its argument is written, and where what is left of it is held
+unfoldable pub HeadIs : List ℕ → List ℕ → ℕ → ℕ → ScriptType → Option Head → Type 0
+HeadIs s t i j (basic b) h = h ≡ Some (basic_head b)
+HeadIs s t i j (reference A) h = (n : ℕ) × (h ≡ Some (Reference n)) × Means s t i j n A
+HeadIs s t i j (function A B) h = (m n : ℕ) × (h ≡ Some (Function m n)) × Written s m A × Means s t i j n B
 
-pub record Headed (s t : List ℕ) (p : ℕ) (r : Head) : Type 0 where
-  pub is : (i j : ℕ) (A : ScriptType) → Means s t i j p A → HeadIs s t i j A r
-
-pub record Decides (P : Type 0) (r : Bool) : Type 0 where
-  pub sound : r ≡ true → P
-  pub complete : P → r ≡ true
+pub record Headed (s t : List ℕ) (p : ℕ) (h : Option Head) : Type 0 where
+  pub is : (i j : ℕ) (A : ScriptType) → Means s t i j p A → HeadIs s t i j A h
 
 -- equal but for what is left
 unfoldable pub Alike : ScriptType → ScriptType → Type 0
@@ -73,11 +104,11 @@ Alike (function A D) (reference B) = ⊥
 Alike (function A D) (function B C) = A ≡ B
 
 pub record SameHeads (s : List ℕ) (a b : Head) (r : Bool) : Type 0 where
-  pub is : (t : List ℕ) (i j : ℕ) (A B : ScriptType) → HeadIs s t i j A a → HeadIs s t i j B b
-      → Decides (Alike A B) r
+  pub is : (t : List ℕ) (i j : ℕ) (A B : ScriptType) → HeadIs s t i j A (Some a) → HeadIs s t i j B (Some b)
+      → Decides r (Alike A B)
 
 abbrev pub Small : ScriptType → Type 0
 Small A = length (type_words A) ≤ 4096
 
 pub record SameTypes (s t : List ℕ) (p q : ℕ) (r : Bool) : Type 0 where
-  pub is : (i j : ℕ) (A B : ScriptType) → Means s t i j p A → Means s t i j q B → Small A → Decides (A ≡ B) r
+  pub is : (i j : ℕ) (A B : ScriptType) → Means s t i j p A → Means s t i j q B → Small A → Decides r (A ≡ B)

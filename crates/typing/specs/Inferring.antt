@@ -1,7 +1,6 @@
 -- The check of an expression that stands in the script, and of a node's children after the first.
 use Rattle.std.specs.Prelude.{ℕ, ◌<◌, ◌≤◌, ◌+◌, List, ◌++◌, [], ◌∷◌, ◌⊎◌, ◌≡◌, get_or, drop, length}
 use Rattle.std.proofs.Math.Option.{Option, none, some}
-use Rattle.typing.specs.declared.rules.Inferred.{Inferred}
 use Rattle.calculus.specs.Expressions.{Expression, two, Two, if}
 use Rattle.calculus.specs.Formed.{Formed}
 use Rattle.calculus.specs.Tags.{tag_word, two_tag, if_tag}
@@ -9,7 +8,7 @@ use Rattle.calculus.specs.Types.{ScriptType}
 use Rattle.calculus.specs.Typing.{Assignment, type_of, no_world}
 use Rattle.calculus.specs.Words.{words}
 use Rattle.typing.specs.Held.{Means, Small}
-use Rattle.typing.specs.Rulings.{Scope, Answers}
+use Rattle.typing.specs.Rulings.{Scope, Answers, Inferred}
 
 -- nothing but the places from i up to j has changed
 abbrev pub Keeps : ℕ → ℕ → List ℕ → List ℕ → Type 0

@@ -1,9 +1,11 @@
 -- The rules on types that are held: what each function of a node's rule answers, said of every type that stands there.
 use Rattle.std.specs.Prelude.{ℕ, ◌<◌, ◌+◌, ◌≤◌, cond, List, ◌≢◌, ◌≡◌, eqb, get_or, length, set}
-use Rattle.std.proofs.Math.Option.{Option, none, some}
+use Rattle.std.specs.Prelude.{Option, Some, None, Result, Ok, Err}
+use Rattle.std.proofs.Math.Option.{Option as Maybe, none, some}
 use Rattle.typing.specs.declared.rules.Ask.{Ask}
-use Rattle.typing.specs.declared.rules.Inferred.{Inferred}
-use Rattle.typing.specs.declared.rules.Inferred.TheVariants.{No, Is}
+use Rattle.typing.specs.declared.CheckError.{CheckError}
+use Rattle.typing.specs.declared.CheckError.TheVariants.{NoType}
+use Rattle.typing.specs.declared.rules.Typed.{Typed}
 use Rattle.typing.specs.declared.types.Head.{Head}
 use Rattle.calculus.specs.Expressions.{Leaf, Constant, One, Two, apply, assign, arithmetic}
 use Rattle.calculus.specs.Options.{◌▸◌}
@@ -14,13 +16,20 @@ use Rattle.calculus.specs.Typing.{equal, arithmetic_type, two_type, if_type}
 use Rattle.calculus.specs.Words.{type_words}
 use Rattle.typing.specs.Held.{Means, Written, HeadIs, Small}
 
--- an answer: the position of the type, and where the node ends; or 13
-unfoldable pub Answers : List ℕ → List ℕ → ℕ → ℕ → Inferred → Option ScriptType → Type 0
-Answers s t i e r none = r ≡ No 13
-Answers s t i e r (some A) = (h : ℕ) × (r ≡ Is h e) × Means s t i e h A
+-- what the check of a node answers
+abbrev pub Inferred : Type 0
+Inferred = Result Typed CheckError
+
+abbrev pub typed : ℕ → ℕ → Inferred
+typed h e = Ok (record { held = h; end = e })
+
+-- an answer: the position of the type, and where the node ends; or that it has no type
+unfoldable pub Answers : List ℕ → List ℕ → ℕ → ℕ → Inferred → Maybe ScriptType → Type 0
+Answers s t i e r none = r ≡ Err NoType
+Answers s t i e r (some A) = (h : ℕ) × (r ≡ typed h e) × Means s t i e h A
 
 -- what the scope notes for a variable: 0, or where its annotation stands
-unfoldable pub Noted : List ℕ → ℕ → Option ScriptType → Type 0
+unfoldable pub Noted : List ℕ → ℕ → Maybe ScriptType → Type 0
 Noted s q none = q ≡ 0
 Noted s q (some A) = (q ≡ 0 → ⊥) × Written s q A
 
@@ -65,20 +74,20 @@ pub record RuleOne (s t : List ℕ) (at a e : ℕ) (r : Inferred) : Type 0 where
       → get_or t at 0 ≡ a → Written s (at + 2) A → Means s t i e a B → Answers s t i e r (some (function A B))
 
 -- a first child's type taken apart: what the second child's type must be, and what the node's is
-abbrev pub opens : Two → ScriptType → Option (ScriptType × ScriptType)
+abbrev pub opens : Two → ScriptType → Maybe (ScriptType × ScriptType)
 opens apply A = as_function A
 opens assign A = as_reference A ▸ λ B. some (B, basic unit_type)
 opens (arithmetic o) A = equal A (basic num_type) ▸ λ u. some (basic num_type, arithmetic_type o)
 
-pub record Opens (s t : List ℕ) (i e : ℕ) (o : Two) (A : ScriptType) (h : Head) (k : Ask) : Type 0 where
-  pub yes : h.word ≡ k.word
-      → (C D : ScriptType) × (opens o A ≡ some (C, D)) × Means s t i e k.want C × Means s t i e k.gives D
+pub record Opens (s t : List ℕ) (i e : ℕ) (o : Two) (A : ScriptType) (k : Option Ask) : Type 0 where
+  pub yes : (a : Ask) → k ≡ Some a
+      → (C D : ScriptType) × (opens o A ≡ some (C, D)) × Means s t i e a.want C × Means s t i e a.gives D
       × (length (type_words C) ≤ length (type_words A))
-  pub no : (h.word ≡ k.word → ⊥) → opens o A ≡ none
+  pub no : k ≡ None → opens o A ≡ none
 
-pub record Asks (w at a : ℕ) (h : Head) (k : Ask) : Type 0 where
-  pub is : (s t : List ℕ) (i e : ℕ) (o : Two) (A : ScriptType) → w ≡ get_or s at 0 → get_or s at 0 ≡ tag_word (two_tag o)
-      → HeadIs s t i e A h → Means s t i e a A → Opens s t i e o A h k
+pub record Asks (s : List ℕ) (at a : ℕ) (h : Head) (k : Option Ask) : Type 0 where
+  pub is : (t : List ℕ) (i e : ℕ) (o : Two) (A : ScriptType) → get_or s at 0 ≡ tag_word (two_tag o)
+      → HeadIs s t i e A (Some h) → Means s t i e a A → Opens s t i e o A k
 
 pub record RuleTwo (s t : List ℕ) (at b e : ℕ) (r : Inferred) : Type 0 where
   pub two : (i : ℕ) (o : Two) (A B : ScriptType) → get_or s at 0 ≡ tag_word (two_tag o) → Small A

@@ -1,5 +1,5 @@
 -- A held type written out, head by head.
-use Rattle.std.specs.Prelude.{ℕ, ◌≤◌, ◌+◌, ◌<◌, List, ◌∷◌, [], ◌≡◌, length}
+use Rattle.std.specs.Prelude.{ℕ, ◌≤◌, ◌+◌, ◌<◌, List, ◌∷◌, [], ◌≡◌, length, Some}
 use Rattle.std.proofs.lemmas.List.Edits.{sets}
 use Rattle.typing.specs.declared.types.Head.{Head}
 use Rattle.calculus.specs.Tags.{type_tag_word, basic_tag}
@@ -15,8 +15,8 @@ head_words (function A B) = 37 ∷ type_words A
 pub record WroteHead (s : List ℕ) (h : Head) (o : List ℕ) (to r : ℕ) (o' : List ℕ) : Type 0 where
   pub few : r ≤ to + 2049
   pub more : to < r
-  pub end : (t : List ℕ) (i j : ℕ) (A : ScriptType) → HeadIs s t i j A h → r ≡ to + length (head_words A)
-  pub is : (t : List ℕ) (i j : ℕ) (A : ScriptType) → HeadIs s t i j A h → o' ≡ sets o to (head_words A)
+  pub end : (t : List ℕ) (i j : ℕ) (A : ScriptType) → HeadIs s t i j A (Some h) → r ≡ to + length (head_words A)
+  pub is : (t : List ℕ) (i j : ℕ) (A : ScriptType) → HeadIs s t i j A (Some h) → o' ≡ sets o to (head_words A)
 
 -- of a type of at most 4,096 words: its words and how many they are; of a longer one: more than 4,096
 pub record WroteType (s t : List ℕ) (p : ℕ) (o : List ℕ) (r : ℕ) (o' : List ℕ) : Type 0 where

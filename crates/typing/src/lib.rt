@@ -1,14 +1,15 @@
 // The check of a script: whether it has a type by the rules, and which, with no type copied on the way.
 #![tactic(auto)]
 
-ghost use Rattle.std.specs.Prelude.{◌≤◌, length};
-ghost use Rattle.typing.specs.Checks.{CheckPromise};
-ghost use Rattle.typing.specs.Answering.{Refuses, PutType, Answered};
+ghost use Rattle.std.specs.Prelude.{◌≡◌};
+ghost use Rattle.typing.specs.Checks.{CheckPromise, of_script};
+ghost use Rattle.typing.specs.Answering.{PutType, Answered};
 
-use buffers::clear;
 use infer::infer;
-use rules::Inferred;
-use script::script_number;
+use script::Script;
+use types::Held;
+use words::buffers::clear;
+use words::script::{ScriptError, check_script};
 use writing::write_type;
 
 mod buffers;
@@ -18,10 +19,9 @@ mod script;
 mod types;
 mod writing;
 
-// What the check answers: the length of the type that it wrote, or why it wrote none.
-#[derive(Drop)]
-pub enum Checked {
-    Typed(usize),
+// Why the check wrote no type.
+#[derive(Clone, Copy, PartialEq, Eq, Debug)]
+pub enum CheckError {
     NoRoom,
     NotFormed,
     HoldsHandle,
@@ -30,63 +30,56 @@ pub enum Checked {
     LongType,
 }
 
-// The refusal with this number.
-fn refused(number: u16) -> Checked
-    ensures { Refuses number result }
-{
-    match number {
-        10 => Checked::NotFormed,
-        11 => Checked::HoldsHandle,
-        12 => Checked::NotClosed,
-        13 => Checked::NoType,
-        14 => Checked::LongType,
-        _ => Checked::NoRoom,
+impl From<ScriptError> for CheckError {
+    ghost from_gives = { λ e r. r ≡ of_script e };
+
+    fn from(error: ScriptError) -> CheckError {
+        match error {
+            ScriptError::NotFormed => CheckError::NotFormed,
+            ScriptError::HoldsHandle => CheckError::HoldsHandle,
+            ScriptError::NotClosed => CheckError::NotClosed,
+        }
     }
 }
 
 // The words of the type that is held at p in `out`, and zeros after them: if they are at most 4,096, and there is room.
-fn put_type(s: &[u16], work: &[u16], p: u16, out: &mut [u16]) -> Checked
-    requires { length s.now ≤ 2048 }
-    ensures { PutType s.now work.now p out.old result out.new }
+fn put_type(script: Script, links: &[u16], p: u16, out: &mut [u16]) -> Result<usize, CheckError>
+    ensures { PutType script.entry.words.now links.now p out.old result out.new }
 {
+    let types = Held { script, links };
     // into no room at all, which only counts them
-    let n = write_type(s, work, p, &mut out[..0]);
+    let n = write_type(types, p, &mut out[..0]);
     if 4096 < n {
-        return Checked::LongType;
+        return Err(CheckError::LongType);
     }
     if out.len() < n {
-        return Checked::NoRoom;
+        return Err(CheckError::NoRoom);
     }
-    write_type(s, work, p, out);
+    write_type(types, p, out);
     clear(out, n);
-    Checked::Typed(n)
+    Ok(n)
 }
 
 // The check, but for the work buffer that it leaves.
-fn answer(script: &[u16], out: &mut [u16], work: &mut [u16]) -> Checked
-    ensures { Answered script.now out.old work.old result out.new }
+fn answer(words: &[u16], out: &mut [u16], work: &mut [u16]) -> Result<usize, CheckError>
+    ensures { Answered words.now out.old work.old result out.new }
 {
     if work.len() != 8192 {
-        return Checked::NoRoom;
+        return Err(CheckError::NoRoom);
     }
-    let number = script_number(script);
-    if number != 0 {
-        return refused(number);
-    }
+    check_script(words)?;
+    let script = Script { words };
     clear(work, 0);
-    let found = infer(script, 0, script.len() as u16, work);
-    match found {
-        Inferred::Is(p, _end) => put_type(script, work, p, out),
-        Inferred::No(n) => refused(n),
-    }
+    let typed = infer(script, 0, words.len() as u16, work)?;
+    put_type(script, work, typed.held, out)
 }
 
-// The type of a script: its words in `out`, then zeros; the work buffer is zeros in the end.
-pub fn check(script: &[u16], out: &mut [u16], work: &mut [u16]) -> Checked
+// The length of the type of a script, whose words stand in `out`, then zeros; the work buffer is zeros in the end.
+pub fn check(script: &[u16], out: &mut [u16], work: &mut [u16]) -> Result<usize, CheckError>
     ensures { CheckPromise
         script.now out.old work.old result out.new work.new }
 {
-    let r = answer(script, out, work);
+    let outcome = answer(script, out, work);
     clear(work, 0);
-    r
+    outcome
 }

@@ -1,16 +1,20 @@
 // The rules of the check, on types that are held as positions.
-ghost use Rattle.std.specs.Prelude.{◌≡◌, ◌<◌, ◌≤◌, length};
+ghost use Rattle.std.specs.Prelude.{◌≡◌, get_or};
 ghost use Rattle.typing.specs.Rulings.{Leafs, Enters, ended, RuleOne, Asks, RuleTwo, RuleThree};
 
-use crate::buffers::{put, word_at};
-use crate::types::{Head, head_of, same};
-use words::walk::{Walk, type_end};
+use crate::CheckError;
+use crate::buffers::put;
+use crate::script::Node;
+use crate::types::{Head, Held};
+use words::reading::word_at;
+use words::tags::Tag;
+use words::walk::type_end;
 
-// The position that stands for a node's type, and where the node ends; or the number of a refusal.
-#[derive(Drop)]
-pub enum Inferred {
-    Is(u16, u16),
-    No(u16),
+// The position that stands for a node's type, and where the node ends.
+#[derive(Clone, Copy)]
+pub struct Typed {
+    pub held: u16,
+    pub end: u16,
 }
 
 // From here on the work buffer notes for each variable in scope where its annotation stands; before it is a word for
@@ -18,156 +22,178 @@ pub enum Inferred {
 pub const SCOPE: usize = 2048;
 
 // No child: unit, false, true, a number, a variable. A location and a revision have no type in a script.
-pub fn leaf(s: &[u16], at: u16, work: &mut [u16]) -> Inferred
-    requires { (length s.now ≤ 2048) × (at < length s.now) }
-    ensures { Leafs s.now at work.old result work.new }
+pub fn leaf(node: Node, work: &mut [u16]) -> Result<Typed, CheckError>
+    ensures { Leafs node.entry.script.words.now node.entry.at work.old result work.new }
 {
-    let i = at as usize;
-    match word_at(s, i) {
-        0 | 1 | 2 => Inferred::Is(at, at + 1),
-        3 => Inferred::Is(at, at + 2),
-        4 => {
-            let place = word_at(work, SCOPE + word_at(s, i + 1) as usize);
+    let at = node.at;
+    match node.tag {
+        Tag::Unit | Tag::False | Tag::True => Ok(Typed {
+            held: at,
+            end: at + 1,
+        }),
+        Tag::Number => Ok(Typed {
+            held: at,
+            end: at + 2,
+        }),
+        Tag::Variable => {
+            let place = word_at(work, SCOPE + node.name() as usize);
             if place == 0 {
-                return Inferred::No(13);
+                return Err(CheckError::NoType);
             }
-            put(work, i, place);
-            Inferred::Is(at, at + 2)
+            put(work, at as usize, place);
+            Ok(Typed {
+                held: at,
+                end: at + 2,
+            })
         }
-        _ => Inferred::No(13),
+        _ => Err(CheckError::NoType),
     }
 }
 
 // Where the first child starts. A lambda notes where its annotation stands, and keeps what was noted before.
-pub fn enter(s: &[u16], at: u16, work: &mut [u16]) -> u16
-    requires { (length s.now ≤ 2048) × (at < length s.now) }
-    ensures { Enters s.now at work.old result work.new }
+pub fn enter(node: Node, work: &mut [u16]) -> u16
+    ensures { Enters node.entry.script.words.now node.entry.at work.old result work.new }
 {
-    let i = at as usize;
-    if word_at(s, i) != 7 {
+    let at = node.at;
+    let Tag::Lambda = node.tag else {
         return at + 1;
-    }
-    let note = SCOPE + word_at(s, i + 1) as usize;
-    let old = word_at(work, note);
-    put(work, i + 1, old);
-    put(work, note, at + 2);
-    let Walk::Ends(body) = type_end(s, i + 2) else {
-        return at;
     };
-    body as u16
+    let note = SCOPE + node.name() as usize;
+    let old = word_at(work, note);
+    put(work, at as usize + 1, old);
+    put(work, note, at + 2);
+    match type_end(node.script.words, at as usize + 2) {
+        Some(body) => body as u16,
+        None => at,
+    }
 }
 
 // After the first child: where its type is held becomes the node's link, and a lambda gives the scope back.
-pub fn leave(s: &[u16], at: u16, work: &mut [u16], first: u16)
-    requires { (length s.now ≤ 2048) × (at < length s.now) }
-    ensures { work.new ≡ ended s.now at first work.old }
+pub fn leave(node: Node, work: &mut [u16], first: u16)
+    ensures { work.new ≡ ended node.entry.script.words.now node.entry.at first work.old }
 {
-    let i = at as usize;
-    if word_at(s, i) == 7 {
-        let note = SCOPE + word_at(s, i + 1) as usize;
-        let old = word_at(work, i + 1);
-        put(work, i, first);
-        put(work, note, old);
-    } else {
-        put(work, i, first);
+    let at = node.at as usize;
+    let old = word_at(work, at + 1);
+    put(work, at, first);
+    if let Tag::Lambda = node.tag {
+        put(work, SCOPE + node.name() as usize, old);
     }
 }
 
-// One child: lambda, ref, read, fork, join. The child's type is held at `first`, and the node ends at `end`.
-pub fn rule_one(s: &[u16], work: &[u16], at: u16, first: u16, end: u16) -> Inferred
-    requires { (length s.now ≤ 2048) × (at < length s.now) }
-    ensures { RuleOne s.now work.now at first end result }
+// One child: lambda, ref, read, fork, join.
+pub fn rule_one(node: Node, links: &[u16], child: Typed) -> Result<Typed, CheckError>
+    ensures { RuleOne node.entry.script.words.now links.now node.entry.at child.held child.end result }
 {
-    let head = head_of(s, work, first);
-    match word_at(s, at as usize) {
+    let Node { script, at, .. } = node;
+    let end = child.end;
+    let itself = Typed { held: at, end };
+    let types = Held { script, links };
+    let Some(head) = types.head(child.held) else {
+        return Err(CheckError::NoType);
+    };
+    match node.tag {
         // lambda: the function from its annotation to its body's type
-        7 => Inferred::Is(at, end),
+        Tag::Lambda => Ok(itself),
         // read: what is referred to
-        11 => {
-            if head.word == 36 {
-                Inferred::Is(head.next, end)
-            } else {
-                Inferred::No(13)
-            }
-        }
+        Tag::Read => match head {
+            Head::Reference { rest } => Ok(Typed { held: rest, end }),
+            _ => Err(CheckError::NoType),
+        },
         // fork: rev, whatever its body's type
-        13 => Inferred::Is(at, end),
+        Tag::Fork => Ok(itself),
         // join: unit, of a rev
-        14 => {
-            if head.word == 35 {
-                Inferred::Is(at, end)
-            } else {
-                Inferred::No(13)
-            }
-        }
+        Tag::Join => match head {
+            Head::Rev => Ok(itself),
+            _ => Err(CheckError::NoType),
+        },
         // ref: the reference to its child's type
-        _ => Inferred::Is(at, end),
+        _ => Ok(itself),
     }
 }
 
-// What a node with two children asks: the first word of the first child's type, the type of the second child,
-// and what it gives.
-#[derive(Drop)]
+// The type that a node asks of its second child, and what it gives.
+#[derive(Clone, Copy)]
 pub struct Ask {
-    pub word: u16,
     pub want: u16,
     pub gives: u16,
 }
 
 // Apply asks for a function and its argument, assign for a reference and what it refers to, the others for numbers.
-fn ask_of(tag: u16, at: u16, first: u16, head: Head) -> Ask
-    ensures { Asks tag at first head result }
+fn ask_of(node: Node, first: u16, head: Head) -> Option<Ask>
+    ensures { Asks node.entry.script.words.now node.entry.at first head result }
 {
-    match tag {
-        8 => Ask {
-            word: 37,
-            want: head.argument,
-            gives: head.next,
+    let at = node.at;
+    match node.tag {
+        Tag::Apply => match head {
+            Head::Function { argument, rest } => Some(Ask {
+                want: argument,
+                gives: rest,
+            }),
+            _ => None,
         },
-        12 => Ask {
-            word: 36,
-            want: head.next,
-            gives: at,
+        Tag::Assign => match head {
+            Head::Reference { rest } => Some(Ask {
+                want: rest,
+                gives: at,
+            }),
+            _ => None,
         },
-        _ => Ask {
-            word: 34,
-            want: first,
-            gives: at,
+        _ => match head {
+            Head::Number => Some(Ask {
+                want: first,
+                gives: at,
+            }),
+            _ => None,
         },
     }
 }
 
 // Two children: apply, assign, and the three on numbers. The first child's type is the node's link.
-pub fn rule_two(s: &[u16], work: &[u16], at: u16, second: u16, end: u16) -> Inferred
-    requires { (length s.now ≤ 2048) × (at < length s.now) }
-    ensures { RuleTwo s.now work.now at second end result }
+pub fn rule_two(node: Node, links: &[u16], second: Typed) -> Result<Typed, CheckError>
+    ensures { RuleTwo node.entry.script.words.now links.now node.entry.at second.held second.end result }
 {
-    let first = word_at(work, at as usize);
-    let head = head_of(s, work, first);
-    let asked = ask_of(word_at(s, at as usize), at, first, head);
-    if head.word != asked.word {
-        return Inferred::No(13);
-    }
-    if same(s, work, asked.want, second) {
-        Inferred::Is(asked.gives, end)
+    let Node { script, at, .. } = node;
+    let types = Held { script, links };
+    let first = word_at(links, at as usize);
+    let Some(head) = types.head(first) else {
+        return Err(CheckError::NoType);
+    };
+    let Some(ask) = ask_of(node, first, head) else {
+        return Err(CheckError::NoType);
+    };
+    if types.same(ask.want, second.held) {
+        Ok(Typed {
+            held: ask.gives,
+            end: second.end,
+        })
     } else {
-        Inferred::No(13)
+        Err(CheckError::NoType)
     }
 }
 
 // Three children: if.
-pub fn rule_three(s: &[u16], work: &[u16], at: u16, second: u16, third: u16, end: u16) -> Inferred
-    requires { length s.now ≤ 2048 }
-    ensures { RuleThree s.now work.now at second third end result }
+pub fn rule_three(
+    node: Node,
+    links: &[u16],
+    second: Typed,
+    third: Typed,
+) -> Result<Typed, CheckError>
+    ensures { RuleThree node.entry.script.words.now links.now node.entry.at second.held third.held third.end result }
 {
-    let first = word_at(work, at as usize);
-    let head = head_of(s, work, first);
-    if head.word != 33 {
-        return Inferred::No(13);
-    }
-    if same(s, work, second, third) {
-        Inferred::Is(second, end)
+    let Node { script, at, .. } = node;
+    let types = Held { script, links };
+    let Some(head) = types.head(word_at(links, at as usize)) else {
+        return Err(CheckError::NoType);
+    };
+    let Head::Bool = head else {
+        return Err(CheckError::NoType);
+    };
+    if types.same(second.held, third.held) {
+        Ok(Typed {
+            held: second.held,
+            end: third.end,
+        })
     } else {
-        Inferred::No(13)
+        Err(CheckError::NoType)
     }
 }

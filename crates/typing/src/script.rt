@@ -1,27 +1,32 @@
-// Whether words are a script: one closed expression of at most 2,048 words that names no location and no revision.
-ghost use Rattle.std.specs.Prelude.{◌≡◌};
-ghost use Rattle.calculus.specs.Answers.{script_of};
-ghost use Rattle.typing.specs.Answering.{script_number};
+// A script that is short enough to be checked, and a node of it.
+ghost use Rattle.std.specs.Prelude.{◌≡◌, ◌+◌, ◌<◌, ◌≤◌, length, get_or};
+ghost use Rattle.words.specs.Tags.{word_of};
 
-use words::closed::closed_end_of;
-use words::names::holds_handle;
-use words::walk::{Walk, is_expression};
+use words::reading::word_at;
+use words::tags::Tag;
 
-// Why they are none: 10, 11 or 12, in this order; and 0 where they are one.
-pub fn script_number(words: &[u16]) -> u16
-    ensures { result ≡ script_number (script_of words.now) }
-{
-    if 2048 < words.len() {
-        return 10;
+// The words of a script: so few that each place in them is a word.
+#[derive(Clone, Copy)]
+pub struct Script<'a> {
+    pub words: &'a [u16],
+    pub ghost few: { length words.now ≤ 2048 },
+}
+
+// The node of the script that stands at `at`, by its tag.
+#[derive(Clone, Copy)]
+pub struct Node<'a> {
+    pub script: Script<'a>,
+    pub at: u16,
+    pub tag: Tag,
+    pub ghost inside: { at < length script.words.now },
+    pub ghost is: { word_of tag ≡ get_or script.words.now at 0 },
+}
+
+impl<'a> Node<'a> {
+    // The word after the tag: of a variable and of a lambda the variable's number.
+    pub fn name(self) -> u16
+        ensures { result ≡ get_or self.entry.script.words.now (self.entry.at + 1) 0 }
+    {
+        word_at(self.script.words, self.at as usize + 1)
     }
-    if !is_expression(words) {
-        return 10;
-    }
-    if holds_handle(words) {
-        return 11;
-    }
-    let Walk::Ends(_end) = closed_end_of(words, 0) else {
-        return 12;
-    };
-    0
 }

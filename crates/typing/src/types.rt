@@ -1,150 +1,165 @@
 // Types held as positions of the script, never copied: the tag at a position says which type it stands for.
 ghost use Rattle.std.specs.Prelude.{◌≡◌, ◌+◌, ◌≤◌, length, get_or};
-ghost use Rattle.typing.specs.Held.{Named, HeadIn, basic_of, Headed, SameHeads, SameTypes};
+ghost use Rattle.typing.specs.Held.{Named, HeadIn, head_if, basic_of, Headed, SameHeads, SameTypes, tag_of, rest_of};
+ghost use Rattle.words.specs.Tags.{word_of};
 
-use crate::buffers::{equal, word_at};
-use words::walk::{Walk, type_end};
+use crate::script::Script;
+use words::reading::word_at;
+use words::tags::{Tag, TypeTag};
+use words::walk::type_end;
 
-// A type's first word, where its argument stands if it is a function's, and where the rest of it is held.
+// What a type is at its front.
 #[derive(Clone, Copy)]
-pub struct Head {
-    pub word: u16,
-    pub argument: u16,
-    pub next: u16,
+pub enum Head {
+    Unit,
+    Bool,
+    Number,
+    Rev,
+    // where what it refers to is held
+    Reference { rest: u16 },
+    // where its argument is written, and where its result is held
+    Function { argument: u16, rest: u16 },
 }
 
-// The type that is written at `at`: that part of the script's own words.
+impl Head {
+    // The first word of the type.
+    pub fn tag(self) -> TypeTag
+        ensures { result ≡ tag_of self }
+    {
+        match self {
+            Head::Unit => TypeTag::Unit,
+            Head::Bool => TypeTag::Bool,
+            Head::Number => TypeTag::Number,
+            Head::Rev => TypeTag::Rev,
+            Head::Reference { .. } => TypeTag::Reference,
+            Head::Function { .. } => TypeTag::Function,
+        }
+    }
+
+    // Where the rest of the type is held, if it has one.
+    pub fn rest(self) -> Option<u16>
+        ensures { result ≡ rest_of self }
+    {
+        match self {
+            Head::Reference { rest } | Head::Function { rest, .. } => Some(rest),
+            _ => None,
+        }
+    }
+}
+
+// The words of the type that is written at `at`: that part of the script's own words.
 pub fn named(s: &[u16], at: usize) -> &[u16]
     ensures { Named s.now at result.now }
 {
-    let Walk::Ends(end) = type_end(s, at) else {
-        return &s[0..0];
-    };
-    &s[at..end]
-}
-
-// The type of the variable at `at`: its annotation's part of the script's own words.
-pub fn lookup<'a>(s: &'a [u16], work: &[u16], at: usize) -> &'a [u16]
-    ensures { Named s.now (get_or work.now at 0) result.now }
-{
-    let place = word_at(work, at) as usize;
-    named(s, place)
+    match type_end(s, at) {
+        Some(end) => &s[at..end],
+        None => &s[0..0],
+    }
 }
 
 // The head of a type whose words stand at the front of the part, which starts at p.
-fn head_in(part: &[u16], p: u16) -> Head
+fn head_in(part: &[u16], p: u16) -> Option<Head>
     requires { p + length part.now ≤ 65535 }
     ensures { HeadIn part.now p result }
 {
-    match word_at(part, 0) {
-        36 => Head {
-            word: 36,
-            argument: 0,
-            next: p + 1,
-        },
-        37 => {
-            let Walk::Ends(end) = type_end(part, 1) else {
-                return Head {
-                    word: 37,
-                    argument: 0,
-                    next: 0,
-                };
-            };
-            Head {
-                word: 37,
+    match TypeTag::of(word_at(part, 0))? {
+        TypeTag::Unit => Some(Head::Unit),
+        TypeTag::Bool => Some(Head::Bool),
+        TypeTag::Number => Some(Head::Number),
+        TypeTag::Rev => Some(Head::Rev),
+        TypeTag::Reference => Some(Head::Reference { rest: p + 1 }),
+        TypeTag::Function => {
+            let end = type_end(part, 1)?;
+            Some(Head::Function {
                 argument: p + 1,
-                next: p + end as u16,
-            }
+                rest: p + end as u16,
+            })
         }
-        w => Head {
-            word: w,
-            argument: 0,
-            next: 0,
-        },
     }
 }
 
-// For each tag, the word of the basic type that such a node has, or 0 where its type is none or depends on its children.
-const BASIC: [u16; 18] = [
-    32, 33, 33, 34, 0, 0, 0, 0, 0, 0, 0, 0, 32, 35, 32, 34, 34, 33,
-];
-
-fn basic_word(tag: u16) -> u16
-    ensures { result ≡ basic_of tag }
+// The basic type that a node with this tag has, if it has one whatever its children are.
+fn basic_of(tag: Tag) -> Option<Head>
+    ensures { result ≡ head_if (basic_of (word_of tag)) }
 {
-    let i = tag as usize;
-    if i < 18 { BASIC[i] } else { 0 }
-}
-
-// The head of the type that is held at p: of a type that is written there, or of the node there.
-// A variable's is read from its annotation; a lambda's and a reference's rest is held where the table says.
-pub fn head_of(s: &[u16], work: &[u16], p: u16) -> Head
-    requires { length s.now ≤ 2048 }
-    ensures { Headed s.now work.now p result }
-{
-    let i = p as usize;
-    let tag = word_at(s, i);
     match tag {
-        4 => head_in(lookup(s, work, i), word_at(work, i)),
-        7 => Head {
-            word: 37,
-            argument: p + 2,
-            next: word_at(work, i),
-        },
-        10 => Head {
-            word: 36,
-            argument: 0,
-            next: word_at(work, i),
-        },
-        _ => {
-            if tag < 32 {
-                Head {
-                    word: basic_word(tag),
-                    argument: 0,
-                    next: 0,
-                }
-            } else {
-                head_in(&s[i..], p)
-            }
+        Tag::Unit | Tag::Assign | Tag::Join => Some(Head::Unit),
+        Tag::False | Tag::True | Tag::Less => Some(Head::Bool),
+        Tag::Number | Tag::Add | Tag::Subtract => Some(Head::Number),
+        Tag::Fork => Some(Head::Rev),
+        _ => None,
+    }
+}
+
+// The script, and the links: for each word of it where the rest of the type is held that the node there has.
+#[derive(Clone, Copy)]
+pub struct Held<'a> {
+    pub script: Script<'a>,
+    pub links: &'a [u16],
+}
+
+impl<'a> Held<'a> {
+    // The head of the type that is held at p: of a type that is written there, or of the node there.
+    // A variable's is read from its annotation; a lambda's and a reference's rest is held where its link says.
+    pub fn head(self, p: u16) -> Option<Head>
+        ensures { Headed self.entry.script.words.now self.entry.links.now p result }
+    {
+        let words = self.script.words;
+        let i = p as usize;
+        let Some(tag) = Tag::of(word_at(words, i)) else {
+            return head_in(words.get(i..)?, p);
+        };
+        let link = word_at(self.links, i);
+        match tag {
+            Tag::Variable => head_in(named(words, link as usize), link),
+            Tag::Lambda => Some(Head::Function {
+                argument: p + 2,
+                rest: link,
+            }),
+            Tag::Ref => Some(Head::Reference { rest: link }),
+            _ => basic_of(tag),
         }
     }
-}
 
-// Are they equal but for what is left of them? Of functions the arguments are compared as parts of the script.
-fn same_heads(s: &[u16], a: Head, b: Head) -> bool
-    ensures { SameHeads s.now a b result }
-{
-    if a.word != b.word {
-        return false;
-    }
-    if a.word != 37 {
-        return true;
-    }
-    let p = a.argument as usize;
-    let q = b.argument as usize;
-    equal(named(s, p), named(s, q))
-}
-
-// Are the types at p and at q the same words? A type of n words has at most n heads.
-pub fn same(s: &[u16], work: &[u16], p: u16, q: u16) -> bool
-    requires { length s.now ≤ 2048 }
-    ensures { SameTypes s.now work.now p q result }
-{
-    let mut p = p;
-    let mut q = q;
-    let mut left: usize = 4096;
-    while 0 < left {
-        let a = head_of(s, work, p);
-        let b = head_of(s, work, q);
-        if !same_heads(s, a, b) {
+    // Are they equal but for what is left of them? Of functions the arguments are compared as parts of the script.
+    fn same_heads(self, a: Head, b: Head) -> bool
+        ensures { SameHeads self.entry.script.words.now a b result }
+    {
+        let Head::Function { argument: p, .. } = a else {
+            return a.tag() == b.tag();
+        };
+        let Head::Function { argument: q, .. } = b else {
             return false;
-        }
-        if a.word < 36 {
-            return true;
-        }
-        p = a.next;
-        q = b.next;
-        left -= 1;
+        };
+        let words = self.script.words;
+        named(words, p as usize) == named(words, q as usize)
     }
-    false
+
+    // Are the types at p and at q the same words? A type of n words has at most n heads.
+    pub fn same(self, p: u16, q: u16) -> bool
+        ensures { SameTypes self.entry.script.words.now self.entry.links.now p q result }
+    {
+        let mut p = p;
+        let mut q = q;
+        for done in 0..4096usize {
+            let Some(a) = self.head(p) else {
+                return false;
+            };
+            let Some(b) = self.head(q) else {
+                return false;
+            };
+            if !self.same_heads(a, b) {
+                return false;
+            }
+            let Some(rest) = a.rest() else {
+                return true;
+            };
+            p = rest;
+            let Some(rest) = b.rest() else {
+                return true;
+            };
+            q = rest;
+        }
+        false
+    }
 }

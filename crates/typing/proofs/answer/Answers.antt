@@ -6,22 +6,22 @@ use Rattle.typing.proofs.answer.Goals as goal
 pub returns-then-work-ne8192 : goal.returns-then-work-ne8192
 returns-then-work-ne8192 c = search answer_work
 
-pub returns-then-number-ne0 : goal.returns-then-number-ne0
-returns-then-number-ne0 c = search answer_no_script
+pub returns-in_err-check_script : goal.returns-in_err-check_script
+returns-in_err-check_script c =
+    answer_no_script _ _ _ c.if-work-ne8192.false _ _ c.in_err-check_script.ensures c.from_residual.ensures
 
-pub overflow_cast-script : goal.overflow_cast-script
-overflow_cast-script c =
-    let h = script_few _ _ c.script_number-number.ensures c.if-number-ne0.false in
+pub overflow_cast-words : goal.overflow_cast-words
+overflow_cast-words c =
+    let h = script_few _ _ c.in_ok-check_script.ensures.1 in
     omega arith
 
-pub infer-found-requires : goal.infer-found-requires
-infer-found-requires c = search script_few
+pub invariant_of-script : goal.invariant_of-script
+invariant_of-script c = record { few = script_few _ _ c.in_ok-check_script.ensures.1 }
 
-pub put_type-requires : goal.put_type-requires
-put_type-requires c = search script_few
+pub returns-in_err-typed : goal.returns-in_err-typed
+returns-in_err-typed c =
+    answer_no_type _ _ _ c.if-work-ne8192.false _ c.in_ok-check_script.ensures.1 _ _ _ c.clear.ensures c.infer.ensures _ _
+    c.in_err-typed.was c.from_residual-in_err-typed.ensures
 
-pub returns-in-Is : goal.returns-in-Is
-returns-in-Is c = search answer_type
-
-pub returns-in-No : goal.returns-in-No
-returns-in-No c = search answer_no_type
+pub returns : goal.returns
+returns c = answer_type _ _ _ c.if-work-ne8192.false _ c.in_ok-check_script.ensures.1 _ _ _ c.clear.ensures c.infer.ensures _ _ _ _ c.in_ok-typed.was c.put_type.ensures

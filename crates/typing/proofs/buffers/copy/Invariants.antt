@@ -1,10 +1,6 @@
--- The loop's invariant: the first `i` words of the part are written. The measure is what is left of the part.
-use Rattle.std.proofs.Common.{length, ◌-◌}
+-- The loop's invariant: the first `i` words of the part are written.
 use Rattle.typing.proofs.Copies.{Copied}
 use Rattle.typing.proofs.buffers.copy.Given as goal
 
 abbrev pub invariant-loop-i : goal.invariant-loop-i
 invariant-loop-i l = Copied l.part l.initial.out l.to l.out l.i
-
-abbrev pub decreases-loop-i : goal.decreases-loop-i
-decreases-loop-i l = length l.part - l.i

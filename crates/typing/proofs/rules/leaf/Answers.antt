@@ -5,14 +5,14 @@ use Rattle.typing.proofs.rules.leaf.Goals as goal
 pub returns-then-place-eq0 : goal.returns-then-place-eq0
 returns-then-place-eq0 c = search leaf_free
 
-pub returns-in-3 : goal.returns-in-3
-returns-in-3 c = search leaf_number
+pub returns-in-Number : goal.returns-in-Number
+returns-in-Number c = search leaf_number
 
 pub returns-else-place-eq0 : goal.returns-else-place-eq0
 returns-else-place-eq0 c = search leaf_variable
 
-pub returns-in-0 : goal.returns-in-0
-returns-in-0 c = search leaf_constant
+pub returns-in-Unit : goal.returns-in-Unit
+returns-in-Unit c = leaf_constant _ _ _ _ c.args.node.is c.in-Unit.is
 
 pub returns-in_default : goal.returns-in_default
 returns-in_default c = search leaf_other

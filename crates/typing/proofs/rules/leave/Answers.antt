@@ -2,8 +2,8 @@
 use Rattle.typing.proofs.Nodes.{leave_lambda, leave_other}
 use Rattle.typing.proofs.rules.leave.Goals as goal
 
-pub returns-then-word_at-eq7 : goal.returns-then-word_at-eq7
-returns-then-word_at-eq7 c = search leave_lambda
+pub returns-in-Lambda : goal.returns-in-Lambda
+returns-in-Lambda c = search leave_lambda
 
-pub returns-else-word_at-eq7 : goal.returns-else-word_at-eq7
-returns-else-word_at-eq7 c = search leave_other
+pub returns-in_default : goal.returns-in_default
+returns-in_default c = search leave_other

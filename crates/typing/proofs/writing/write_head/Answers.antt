@@ -2,8 +2,8 @@
 use Rattle.typing.proofs.Output.{wrote_word, wrote_function}
 use Rattle.typing.proofs.writing.write_head.Goals as goal
 
-pub returns-then-h-ne37 : goal.returns-then-h-ne37
-returns-then-h-ne37 c = search wrote_word
+pub returns-in-Function : goal.returns-in-Function
+returns-in-Function c = search wrote_function
 
-pub returns : goal.returns
-returns c = search wrote_function
+pub returns-in_default : goal.returns-in_default
+returns-in_default c = search wrote_word
