@@ -12,7 +12,6 @@ pub mod ClosedNodes
 pub mod ClosedFronts
 pub mod ClosedLook
 pub mod ClosedWalk
-pub mod SignedWords
 pub mod Marks
 pub mod Standing
 pub mod Leaves

@@ -1,6 +1,6 @@
 -- Marks of numbers, and which are set for the names that stand in words.
 use Rattle.std.specs.Prelude.{ℕ, ◌≡◌, List, [], ◌∷◌, Bool, true, false, set, replicate}
-use Rattle.calculus.specs.Expressions.{location, revision, Expression}
+use Rattle.calculus.specs.Expressions.{Leaf, location, revision, Expression}
 use Rattle.calculus.specs.Words.{words}
 use Rattle.calculus.specs.Formed.{Formed}
 use Rattle.calculus.specs.NewNumbers.{named}
@@ -19,6 +19,10 @@ pub record Clear (u : InUse) : Type 0 where
 -- one number more is marked
 pub record Marked (u : InUse) (n : ℕ) (r : InUse) : Type 0 where
   pub marks : r.marks ≡ set u.marks n true
+
+-- the numbers that the leaves of the kind name are marked too
+pub record NamesMarked (s : List ℕ) (k : Leaf) (m r : List Bool) : Type 0 where
+  pub marks : (e : Expression) → s ≡ words e → Formed e → r ≡ mark_all (named k e) m
 
 pub record RevisionsMarked (s : List ℕ) (u r : InUse) : Type 0 where
   pub marks : (e : Expression) → s ≡ words e → Formed e → r.marks ≡ mark_all (named revision e) u.marks

@@ -2,7 +2,7 @@
 ghost use Rattle.std.specs.Prelude.{◌≡◌};
 ghost use Rattle.calculus.specs.Answers.{tally};
 
-use crate::names::{Leaf, next_leaf};
+use crate::names::{Leaf, Marks, with_names};
 
 // The marks of the revision numbers in use, and how many are set.
 #[derive(Clone, Copy, Debug)]
@@ -10,6 +10,19 @@ pub struct InUse {
     pub marks: [bool; 64],
     pub count: usize,
     pub ghost counted: { count ≡ tally marks },
+}
+
+impl Marks for InUse {
+    ghost marks = { λ used. used.marks };
+
+    // Counted where it is new.
+    fn mark(&mut self, number: u16) {
+        let i = number as usize;
+        if i < 64 && !self.marks[i] {
+            self.marks[i] = true;
+            self.count += 1;
+        }
+    }
 }
 
 impl InUse {
@@ -25,17 +38,12 @@ impl InUse {
         }
     }
 
-    // One more mark, counted where it is new; a number past the marks is none.
+    // One more mark; a number past the marks is none.
     pub fn with(self, number: u16) -> InUse
         ensures { Marked self number result }
     {
-        let i = number as usize;
-        if 64 <= i || self.marks[i] {
-            return self;
-        }
         let mut more = self;
-        more.marks[i] = true;
-        more.count += 1;
+        more.mark(number);
         more
     }
 
@@ -43,12 +51,6 @@ impl InUse {
     pub fn with_names(self, s: &[u16]) -> InUse
         ensures { RevisionsMarked s.now self result }
     {
-        let mut all = self;
-        let mut p = 0;
-        while let Some(q) = next_leaf(s, p, Leaf::Revision) {
-            all = all.with(s[q + 1]);
-            p = q + 2;
-        }
-        all
+        with_names(self, s, Leaf::Revision)
     }
 }

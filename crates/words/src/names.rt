@@ -1,6 +1,7 @@
 // Which names occur in an expression: flat scans over its words, node by node.
-ghost use Rattle.words.specs.Names.{NextLeaf, HandleTold};
-ghost use Rattle.words.specs.Marks.{LocationsMarked};
+ghost use Rattle.std.specs.Prelude.{◌≡◌, List, Bool, true, set};
+ghost use Rattle.words.specs.Names.{NextLeaf, HandleTold, leaf_of};
+ghost use Rattle.words.specs.Marks.{NamesMarked, LocationsMarked};
 
 pub use crate::in_use::InUse;
 use crate::table::Kind;
@@ -38,18 +39,42 @@ pub fn holds_handle(s: &[u16]) -> bool
     next_leaf(s, 0, Leaf::Location).is_some() || next_leaf(s, 0, Leaf::Revision).is_some()
 }
 
+// Marks of numbers.
+pub trait Marks {
+    ghost marks: { Self → List Bool };
+
+    // Sets the mark of the number; a number past the marks has none.
+    fn mark(&mut self, number: u16)
+        ensures { marks self.new ≡ set (marks self.old) number true };
+}
+
+impl<const N: usize> Marks for [bool; N] {
+    ghost marks = { λ m. m };
+
+    fn mark(&mut self, number: u16) {
+        let i = number as usize;
+        if i < N {
+            self[i] = true;
+        }
+    }
+}
+
+// The marks with those of the numbers that the leaves of the kind name.
+pub fn with_names<M: Marks>(marks: M, s: &[u16], leaf: Leaf) -> M
+    ensures { NamesMarked s.now (leaf_of leaf) (M.marks marks) (M.marks result) }
+{
+    let mut all = marks;
+    let mut p = 0;
+    while let Some(q) = next_leaf(s, p, leaf) {
+        all.mark(s[q + 1]);
+        p = q + 2;
+    }
+    all
+}
+
 // The marks with those of the locations that are named in the words.
 pub fn locations_in(s: &[u16], marks: [bool; 256]) -> [bool; 256]
     ensures { LocationsMarked s.now marks result }
 {
-    let mut all = marks;
-    let mut p = 0;
-    while let Some(q) = next_leaf(s, p, Leaf::Location) {
-        let number = s[q + 1] as usize;
-        if number < 256 {
-            all[number] = true;
-        }
-        p = q + 2;
-    }
-    all
+    with_names(marks, s, Leaf::Location)
 }
