@@ -17,12 +17,12 @@ use Rattle.words.proofs.Ends.{type_stands, expression_stands}
 use Rattle.words.proofs.Nodes.{on_front, parts, expression_node}
 
 pub walk_ends : (o : Maybe ℕ) (e : ℕ) → Some e ≡ walk_of o → o ≡ some e
-walk_ends none e q = let z : ◌≡◌ {A = ℕ} 0 1 = cc in absurd (omega arith)
+walk_ends none e q = cc
 walk_ends (some f) e q = cc
 
 pub walk_broken : (o : Maybe ℕ) → None ≡ walk_of o → o ≡ none
 walk_broken none q = refl
-walk_broken (some f) q = let z : ◌≡◌ {A = ℕ} 0 1 = cc in absurd (omega arith)
+walk_broken (some f) q = cc
 
 -- an end is not before its start
 pub types_low : (s : List ℕ) (n at e : ℕ) → types_end s n at ≡ some e → at ≤ e

@@ -13,18 +13,18 @@ use Rattle.std.specs.Prelude.{Option, Some, None}
 use Rattle.calculus.specs.Options.{◌▸◌, test}
 use Rattle.calculus.specs.Expressions.{Leaf, number, variable, location, revision, leaf}
 use Rattle.calculus.specs.Tags.{Tag, constant_tag, leaf_tag, lambda_tag, one_tag, two_tag, if_tag, largest}
-use Rattle.calculus.specs.Tags.{TypeTag, basic_tag, reference_tag, function_tag}
 use Rattle.calculus.specs.Words.{words, type_words}
-use Rattle.calculus.specs.Reading.{type_end, read_type, read_expression, tag_of, type_tag_of}
+use Rattle.calculus.specs.Reading.{type_end, read_type, read_expression, tag_of}
 use Rattle.calculus.proofs.Options.{some_inj, ▸-some}
 use Rattle.calculus.proofs.Reading.{tag_word_tag_of}
 use Rattle.words.specs.declared.closed.Node.{Node}
 use Rattle.words.specs.declared.closed.Node.TheVariants.{Plain, Variable, Binder}
 use Rattle.words.specs.declared.table.Kind.TheVariants.{Expression as ExpressionKind}
-use Rattle.words.specs.Rows.{tag_row, type_tag_row, type_row_if, row_if, row_of}
-use Rattle.words.specs.Walks.{front, front_of, is_kind}
+use Rattle.words.specs.Rows.{tag_row}
+use Rattle.words.specs.Walks.{front, front_of}
 use Rattle.words.specs.Scopes.{closed_under, closed_end, node_if, node_of, binder_if}
-use Rattle.words.proofs.Fronts.{front_out, front_untagged, front_other, front_bare, front_short, front_fine, front_over}
+use Rattle.words.proofs.Fronts.{front_out}
+use Rattle.words.proofs.TagFronts.{untagged_front, bare_front, short_front, fine_front, over_front}
 use Rattle.words.proofs.ClosedReading.{read_past, read_node, own_over, own_past}
 use Rattle.words.proofs.ClosedNodes.{closed_ends, end_if, parts, end_one, end_two, end_if_lem, end_leaf, end_lambda}
 
@@ -39,12 +39,6 @@ binder_end : (s : List ℕ) (scope : List Bool) (x : ℕ) (m : Maybe ℕ)
     → (m ▸ λ b. closed_end s (set scope x true) b) ≡ node_end s scope (binder_if x m)
 binder_end s scope x none = refl
 binder_end s scope x (some b) = refl
-
--- a word that is no expression's tag
-no_kind : (t : TypeTag) → is_kind (type_tag_row t).kind ExpressionKind ≡ false
-no_kind (basic_tag b) = refl
-no_kind reference_tag = refl
-no_kind function_tag = refl
 
 abbrev is_variable : Tag → Bool
 is_variable (constant_tag c) = false
@@ -72,84 +66,54 @@ own s next b = go (dec_lt next (length s)) (dec_lt b (get_or s next 0))
     go (no h) d = past (omega arith)
 
 module _ (s : List ℕ) (at : ℕ) (h : at < length s) where
-  no_tag : tag_of (get_or s at 0) ≡ none → front_of s ExpressionKind at ≡ None
-  unfolding row_of
-  no_tag e = go (type_tag_of (get_or s at 0)) refl
-    where
-      is : (u : Maybe TypeTag) → type_tag_of (get_or s at 0) ≡ u → type_row_if u ≡ row_of (get_or s at 0)
-      is u f = sym (ap (λ o. row_if o (type_row_if (type_tag_of (get_or s at 0)))) e ∙ ap type_row_if f)
-
-      go : (u : Maybe TypeTag) → type_tag_of (get_or s at 0) ≡ u → front_of s ExpressionKind at ≡ None
-      go none f = sym (front_untagged s ExpressionKind at h (get_or s at 0) refl (is none f))
-      go (some t) f =
-          sym
-          (front_other s ExpressionKind at h (get_or s at 0) refl (type_tag_row t) (is (some t) f) (no_kind t))
-
   module _ (t : Tag) (e : tag_of (get_or s at 0) ≡ some t) where
-    row_is : Some (tag_row t) ≡ row_of (get_or s at 0)
-    unfolding row_of
-    row_is = sym (ap (λ o. row_if o (type_row_if (type_tag_of (get_or s at 0)))) e)
-
     not_variable : is_variable t ≡ false → eqb (get_or s at 0) 4 ≡ false
     not_variable d =
         ne_eqb (get_or s at 0) 4 λ q.
-        let v : is_variable t ≡ true = ap is_variable (some_inj (sym e ∙ ap tag_of q)) in
-        let z : ◌≡◌ {A = ℕ} 0 1 = cc in
-        omega arith
+        let v : is_variable t ≡ true = ap is_variable (some_inj (sym e ∙ ap tag_of q)) in cc
 
-    plain : is_variable t ≡ false → is_kind (tag_row t).kind ExpressionKind ≡ true → (tag_row t).limit ≡ None
-        → (tag_row t).types ≡ 0 → node_of s at ≡ Some (Plain (tag_row t).children (at + 1))
+    plain : is_variable t ≡ false → (tag_row t).limit ≡ None → (tag_row t).types ≡ 0
+        → node_of s at ≡ Some (Plain (tag_row t).children (at + 1))
     unfolding node_of
-    plain d k l z =
-        ap (node_if s at) (sym (front_bare s ExpressionKind at h (get_or s at 0) refl (tag_row t) row_is k l))
-        ∙ rw (eq-eqb (tag_row t).types 0 z, not_variable d) refl
+    plain d l z =
+        ap (node_if s at) (bare_front s at h t e l) ∙ rw (eq-eqb (tag_row t).types 0 z, not_variable d) refl
 
     end_tag : (scope : List Bool) → closed_end s scope at ≡ (parts s scope at t ▸ end_if scope at)
     unfolding closed_end
     end_tag scope = rw (read_node s at h, e) refl
 
     -- the own word is below the limit, or the node is none
-    front_own : (b : ℕ) → is_kind (tag_row t).kind ExpressionKind ≡ true → (tag_row t).limit ≡ Some (suc b)
-        → at + 1 < length s → get_or s (at + 1) 0 ≤ b
-        → front_of s ExpressionKind at ≡ Some (front (tag_row t) (at + 1 + 1))
-    front_own b k l i o =
-        sym
-        (front_fine s ExpressionKind at h (get_or s at 0) refl (tag_row t) row_is k (suc b) l i (get_or s (at + 1) 0) refl
-        (omega arith))
+    module _ (b : ℕ) (l : (tag_row t).limit ≡ Some (suc b)) where
+      front_own : at + 1 < length s → get_or s (at + 1) 0 ≤ b
+          → front_of s ExpressionKind at ≡ Some (front (tag_row t) (at + 1 + 1))
+      front_own i o = fine_front s at h t e (suc b) l i (omega arith)
 
-    wrong_over : (b : ℕ) → is_kind (tag_row t).kind ExpressionKind ≡ true → (tag_row t).limit ≡ Some (suc b)
-        → at + 1 < length s → b < get_or s (at + 1) 0 → node_of s at ≡ None
-    unfolding node_of
-    wrong_over b k l i o =
-        ap (node_if s at)
-        (sym
-        (front_over s ExpressionKind at h (get_or s at 0) refl (tag_row t) row_is k (suc b) l i (get_or s (at + 1) 0) refl
-        (omega arith)))
+      wrong_over : at + 1 < length s → b < get_or s (at + 1) 0 → node_of s at ≡ None
+      unfolding node_of
+      wrong_over i o = ap (node_if s at) (over_front s at h t e (suc b) l i (omega arith))
 
-    wrong_past : (b : ℕ) → is_kind (tag_row t).kind ExpressionKind ≡ true → (tag_row t).limit ≡ Some (suc b)
-        → length s ≤ at + 1 → node_of s at ≡ None
-    unfolding node_of
-    wrong_past b k l i =
-        ap (node_if s at) (sym (front_short s ExpressionKind at h (get_or s at 0) refl (tag_row t) row_is k (suc b) l i))
+      wrong_past : length s ≤ at + 1 → node_of s at ≡ None
+      unfolding node_of
+      wrong_past i = ap (node_if s at) (short_front s at h t e (suc b) l i)
 
   -- a leaf
   plain_leaf : (k : Leaf) → tag_of (get_or s at 0) ≡ some (leaf_tag k) → is_variable (leaf_tag k) ≡ false
       → at + 1 < length s → get_or s (at + 1) 0 ≤ largest k → node_of s at ≡ Some (Plain 0 (at + 1 + 1))
   unfolding node_of
   plain_leaf k e d i o =
-      ap (node_if s at) (front_own (leaf_tag k) e (largest k) refl refl i o) ∙ rw (not_variable (leaf_tag k) e d) refl
+      ap (node_if s at) (front_own (leaf_tag k) e (largest k) refl i o) ∙ rw (not_variable (leaf_tag k) e d) refl
 
   variable_leaf : tag_of (get_or s at 0) ≡ some (leaf_tag variable) → at + 1 < length s → get_or s (at + 1) 0 ≤ 255
       → node_of s at ≡ Some (Variable (get_or s (at + 1) 0) (at + 1 + 1))
   unfolding node_of
   variable_leaf e i o =
-      ap (node_if s at) (front_own (leaf_tag variable) e 255 refl refl i o)
+      ap (node_if s at) (front_own (leaf_tag variable) e 255 refl i o)
       ∙ rw (eq-eqb (get_or s at 0) 4 (sym (tag_word_tag_of (get_or s at 0) e))) refl
 
   binder : tag_of (get_or s at 0) ≡ some lambda_tag → at + 1 < length s → get_or s (at + 1) 0 ≤ 255
       → node_of s at ≡ binder_if (get_or s (at + 1) 0) (type_end s (at + 1 + 1))
   unfolding node_of
-  binder e i o = ap (node_if s at) (front_own lambda_tag e 255 refl refl i o)
+  binder e i o = ap (node_if s at) (front_own lambda_tag e 255 refl i o)
 
   module _ (scope : List Bool) where
     leaf_end : (k : Leaf) → tag_of (get_or s at 0) ≡ some (leaf_tag k)
@@ -163,10 +127,10 @@ module _ (s : List ℕ) (at : ℕ) (h : at < length s) where
         go (fits i o) = end_tag (leaf_tag k) e scope ∙ end_leaf s scope at i k o ∙ same i o
         go (over i o) =
             end_tag (leaf_tag k) e scope
-            ∙ rw (own_over s (at + 1) (largest k) i o, wrong_over (leaf_tag k) e (largest k) refl refl i o) refl
+            ∙ rw (own_over s (at + 1) (largest k) i o, wrong_over (leaf_tag k) e (largest k) refl i o) refl
         go (past i) =
             end_tag (leaf_tag k) e scope
-            ∙ rw (own_past s (at + 1) (largest k) i, wrong_past (leaf_tag k) e (largest k) refl refl i) refl
+            ∙ rw (own_past s (at + 1) (largest k) i, wrong_past (leaf_tag k) e (largest k) refl i) refl
 
     lambda_end : tag_of (get_or s at 0) ≡ some lambda_tag → closed_end s scope at ≡ node_end s scope (node_of s at)
     lambda_end e = go (own s (at + 1) 255)
@@ -179,19 +143,19 @@ module _ (s : List ℕ) (at : ℕ) (h : at < length s) where
             ∙ ap (node_end s scope) (sym (binder e i o))
         go (over i o) =
             end_tag lambda_tag e scope
-            ∙ rw (own_over s (at + 1) 255 i o, wrong_over lambda_tag e 255 refl refl i o) refl
+            ∙ rw (own_over s (at + 1) 255 i o, wrong_over lambda_tag e 255 refl i o) refl
         go (past i) =
-            end_tag lambda_tag e scope ∙ rw (own_past s (at + 1) 255 i, wrong_past lambda_tag e 255 refl refl i) refl
+            end_tag lambda_tag e scope ∙ rw (own_past s (at + 1) 255 i, wrong_past lambda_tag e 255 refl i) refl
 
     untagged : tag_of (get_or s at 0) ≡ none → closed_end s scope at ≡ node_end s scope (node_of s at)
     unfolding closed_end node_of
-    untagged e = rw (read_node s at h, e, no_tag e) refl
+    untagged e = rw (read_node s at h, e, untagged_front s at h e) refl
 
     tag_end : (t : Tag) → tag_of (get_or s at 0) ≡ some t → closed_end s scope at ≡ node_end s scope (node_of s at)
     unfolding closed_ends closed_under words
     tag_end (constant_tag c) e =
         end_tag (constant_tag c) e scope
-        ∙ sym (ap (node_end s scope) (plain (constant_tag c) e refl refl refl refl))
+        ∙ sym (ap (node_end s scope) (plain (constant_tag c) e refl refl refl))
     tag_end (leaf_tag number) e =
         leaf_end number e λ i o. sym (ap (node_end s scope) (plain_leaf number e refl i o))
     tag_end (leaf_tag variable) e = leaf_end variable e λ i o. sym (ap (node_end s scope) (variable_leaf e i o))
@@ -203,15 +167,15 @@ module _ (s : List ℕ) (at : ℕ) (h : at < length s) where
     tag_end (one_tag o) e =
         end_tag (one_tag o) e scope
         ∙ end_one s scope at o
-        ∙ sym (ap (node_end s scope) (plain (one_tag o) e refl refl refl refl))
+        ∙ sym (ap (node_end s scope) (plain (one_tag o) e refl refl refl))
     tag_end (two_tag o) e =
         end_tag (two_tag o) e scope
         ∙ end_two s scope at o
-        ∙ sym (ap (node_end s scope) (plain (two_tag o) e refl refl refl refl))
+        ∙ sym (ap (node_end s scope) (plain (two_tag o) e refl refl refl))
     tag_end if_tag e =
         end_tag if_tag e scope
         ∙ end_if_lem s scope at
-        ∙ sym (ap (node_end s scope) (plain if_tag e refl refl refl refl))
+        ∙ sym (ap (node_end s scope) (plain if_tag e refl refl refl))
 
     inside : closed_end s scope at ≡ node_end s scope (node_of s at)
     inside = go (tag_of (get_or s at 0)) refl
@@ -265,10 +229,9 @@ closed_low s scope at e q =
     omega arith
 
 module _ (s : List ℕ) (at : ℕ) (h : at < length s) where
-  seen_bare : (t : Tag) → tag_of (get_or s at 0) ≡ some t → is_variable t ≡ false
-      → is_kind (tag_row t).kind ExpressionKind ≡ true → (tag_row t).limit ≡ None → (tag_row t).types ≡ 0 → (tag_row t).children ≤ 3 → Seen s at (node_of s at)
-  seen_bare t e d k l z c =
-      rw (plain s at h t e d k l z) (record { within = h; low = omega arith; few = c })
+  seen_bare : (t : Tag) → tag_of (get_or s at 0) ≡ some t → is_variable t ≡ false → (tag_row t).limit ≡ None → (tag_row t).types ≡ 0 → (tag_row t).children ≤ 3 → Seen s at (node_of s at)
+  seen_bare t e d l z c =
+      rw (plain s at h t e d l z) (record { within = h; low = omega arith; few = c })
 
   seen_leaf : (k : Leaf) → tag_of (get_or s at 0) ≡ some (leaf_tag k)
       → (at + 1 < length s → get_or s (at + 1) 0 ≤ largest k → Seen s at (node_of s at)) → Seen s at (node_of s at)
@@ -276,8 +239,8 @@ module _ (s : List ℕ) (at : ℕ) (h : at < length s) where
     where
       go : Own s (at + 1) (largest k) → Seen s at (node_of s at)
       go (fits i o) = f i o
-      go (over i o) = rw (wrong_over s at h (leaf_tag k) e (largest k) refl refl i o) tt
-      go (past i) = rw (wrong_past s at h (leaf_tag k) e (largest k) refl refl i) tt
+      go (over i o) = rw (wrong_over s at h (leaf_tag k) e (largest k) refl i o) tt
+      go (past i) = rw (wrong_past s at h (leaf_tag k) e (largest k) refl i) tt
 
   seen_plain_leaf : (k : Leaf) → tag_of (get_or s at 0) ≡ some (leaf_tag k) → is_variable (leaf_tag k) ≡ false
       → Seen s at (node_of s at)
@@ -296,12 +259,12 @@ module _ (s : List ℕ) (at : ℕ) (h : at < length s) where
 
       go : Own s (at + 1) 255 → Seen s at (node_of s at)
       go (fits i o) = rw (binder s at h e i o) (typed (type_end s (at + 1 + 1)) refl o)
-      go (over i o) = rw (wrong_over s at h lambda_tag e 255 refl refl i o) tt
-      go (past i) = rw (wrong_past s at h lambda_tag e 255 refl refl i) tt
+      go (over i o) = rw (wrong_over s at h lambda_tag e 255 refl i o) tt
+      go (past i) = rw (wrong_past s at h lambda_tag e 255 refl i) tt
 
   seen_tag : (t : Tag) → tag_of (get_or s at 0) ≡ some t → Seen s at (node_of s at)
   seen_tag (constant_tag c) e =
-      seen_bare (constant_tag c) e refl refl refl refl (omega arith)
+      seen_bare (constant_tag c) e refl refl refl (omega arith)
   seen_tag (leaf_tag number) e = seen_plain_leaf number e refl
   seen_tag (leaf_tag variable) e =
       seen_leaf variable e λ i o.
@@ -310,17 +273,17 @@ module _ (s : List ℕ) (at : ℕ) (h : at < length s) where
   seen_tag (leaf_tag revision) e = seen_plain_leaf revision e refl
   seen_tag lambda_tag e = seen_lambda e
   seen_tag (one_tag o) e =
-      seen_bare (one_tag o) e refl refl refl refl (omega arith)
+      seen_bare (one_tag o) e refl refl refl (omega arith)
   seen_tag (two_tag o) e =
-      seen_bare (two_tag o) e refl refl refl refl (omega arith)
-  seen_tag if_tag e = seen_bare if_tag e refl refl refl refl (omega arith)
+      seen_bare (two_tag o) e refl refl refl (omega arith)
+  seen_tag if_tag e = seen_bare if_tag e refl refl refl (omega arith)
 
   seen_inside : Seen s at (node_of s at)
   unfolding node_of
   seen_inside = go (tag_of (get_or s at 0)) refl
     where
       go : (o : Maybe Tag) → tag_of (get_or s at 0) ≡ o → Seen s at (node_of s at)
-      go none e = rw (no_tag s at h e) tt
+      go none e = rw (untagged_front s at h e) tt
       go (some t) e = seen_tag t e
 
 seen : (s : List ℕ) (at : ℕ) → Seen s at (node_of s at)

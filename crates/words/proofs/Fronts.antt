@@ -21,15 +21,15 @@ use Rattle.words.proofs.Rows.{Small, small}
 
 -- the code's test whether two kinds differ
 pub kinds_differ : (a b : Kind) → true ≡ not (sameb the_type a b) → is_kind a b ≡ false
-kinds_differ Expression Expression e = let z : ◌≡◌ {A = ℕ} 0 1 = cc in absurd (omega arith)
+kinds_differ Expression Expression e = cc
 kinds_differ Expression TypeKind e = refl
 kinds_differ TypeKind Expression e = refl
-kinds_differ TypeKind TypeKind e = let z : ◌≡◌ {A = ℕ} 0 1 = cc in absurd (omega arith)
+kinds_differ TypeKind TypeKind e = cc
 
 pub kinds_agree : (a b : Kind) → false ≡ not (sameb the_type a b) → is_kind a b ≡ true
 kinds_agree Expression Expression e = refl
-kinds_agree Expression TypeKind e = let z : ◌≡◌ {A = ℕ} 0 1 = cc in absurd (omega arith)
-kinds_agree TypeKind Expression e = let z : ◌≡◌ {A = ℕ} 0 1 = cc in absurd (omega arith)
+kinds_agree Expression TypeKind e = cc
+kinds_agree TypeKind Expression e = cc
 kinds_agree TypeKind TypeKind e = refl
 
 pub front_out : (s : List ℕ) (k : Kind) (at : ℕ) → length s ≤ at → None ≡ front_of s k at
@@ -78,9 +78,6 @@ pub record Fronted (s : List ℕ) (k : Kind) (at : ℕ) (n : Row) (next : ℕ) :
   pub types : n.types ≤ 2
   pub children : n.children ≤ 3
 
-none≢some : {A C : Type 0} (a : A) → None ≡ Some a → C
-none≢some a e = absurd (let z : ◌≡◌ {A = ℕ} 0 1 = cc in omega arith)
-
 pub front_within : (s : List ℕ) (k : Kind) (at : ℕ) (g : Front) → Some g ≡ front_of s k at
     → Fronted s k at g.row g.next
 unfolding front_of
@@ -101,18 +98,18 @@ front_within s k at g q = start (ltb at (length s)) (row_of (get_or s at 0)) ref
       where
         below : (x y : Bool) → ltb (at + 1) (length s) ≡ x
             → choose x (choose y (Some (front m (at + 1 + 1))) None) None ≡ Some g → Fronted s k at g.row g.next
-        below false y j t = none≢some g t
-        below true false j t = none≢some g t
+        below false y j t = cc
+        below true false j t = cc
         below true true j t =
             ends h m e i (at + 1 + 1) (omega arith) (omega (arith, ltb-true (at + 1) (length s) j)) t
 
     row : at < length s → (m : Row) → row_of (get_or s at 0) ≡ Some m → (b : Bool) → is_kind m.kind k ≡ b
         → choose b (own_front s m m.limit (at + 1)) None ≡ Some g → Fronted s k at g.row g.next
-    row h m e false i t = none≢some g t
+    row h m e false i t = cc
     row h m e true i t = own h m e i m.limit t
 
     start : (a : Bool) (o : Option Row) → ltb at (length s) ≡ a → row_of (get_or s at 0) ≡ o
         → choose a (row_front s k o (at + 1)) None ≡ Some g → Fronted s k at g.row g.next
-    start false o i e t = none≢some g t
-    start true None i e t = none≢some g t
+    start false o i e t = cc
+    start true None i e t = cc
     start true (Some m) i e t = row (ltb-true at (length s) i) m e (is_kind m.kind k) refl t

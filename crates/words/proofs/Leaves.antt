@@ -75,14 +75,14 @@ module _ (s : List ℕ) (at : ℕ) (kind : LeafKind) (p : ℕ) (passed : Passed 
       go (e ∷ es) h =
           let n = node s p e es h in
           let r : None ≡ Some (front n.row n.next) = q ∙ n.front in
-          absurd (let z : ◌≡◌ {A = ℕ} 0 1 = cc in omega arith)
+          cc
 
   module _ (f : Front) (q : Some f ≡ front_of s ExpressionKind p) where
     -- a tree stands where a front does
     no_tree : {C : Type 0} → TreesAt s p [] → C
     no_tree st =
         let r : None ≡ Some f = sym (no_node s p st) ∙ sym q in
-        absurd (let z : ◌≡◌ {A = ℕ} 0 1 = cc in omega arith)
+        cc
 
     -- the leaf stands at p
     pub leaf_here : get_or s p 0 ≡ tag_word (leaf_tag k) → NextLeaf s at kind (Some p)
@@ -221,7 +221,7 @@ handle_named (if a b c) =
 module _ (s : List ℕ) where
   -- a location is found
   pub handle_first : (f : Option ℕ) → NextLeaf s 0 Location f → true ≡ is_some f → (b : Bool) → b ≡ true → HandleTold s b
-  handle_first None h y b i = absurd (let z : ◌≡◌ {A = ℕ} 0 1 = cc in omega arith)
+  handle_first None h y b i = cc
   handle_first (Some q) h y b i = record { told = λ e w o. i ∙ go e (h.first (e ∷ []) (whole s e w o)) }
     where
       go : (e : Expression) → FirstAt s location (e ∷ []) q → true ≡ holds_handle e
@@ -230,7 +230,7 @@ module _ (s : List ℕ) where
   -- none is, and a revision is found, or none
   pub handle_second : (f g : Option ℕ) → NextLeaf s 0 Location f → false ≡ is_some f → NextLeaf s 0 Revision g
       → (b : Bool) → b ≡ is_some g → HandleTold s b
-  handle_second (Some q) g h n i b j = absurd (let z : ◌≡◌ {A = ℕ} 0 1 = cc in omega arith)
+  handle_second (Some q) g h n i b j = cc
   handle_second None g h n i b j =
       record {
         told = λ e w o. j ∙ go e g (h.first (e ∷ []) (whole s e w o)) (i.first (e ∷ []) (whole s e w o));

@@ -55,7 +55,7 @@ count_few m c n e d = omega (arith, tally_few m)
 tally_more : (m : List Bool) (i : ℕ) → i < length m → get_or m i false ≡ false → tally (set m i true) ≡ tally m + 1
 unfolding tally
 tally_more [] i h e = absurd (omega arith)
-tally_more (true ∷ m) zero h e = let z : ◌≡◌ {A = ℕ} 0 1 = cc in absurd (omega arith)
+tally_more (true ∷ m) zero h e = cc
 tally_more (false ∷ m) zero h e = omega arith
 tally_more (b ∷ m) (suc i) h e = omega (arith, tally_more m i (le_of_suc-le-suc h) e)
 

@@ -26,7 +26,7 @@ use Rattle.words.specs.declared.table.Kind.TheVariants.{Expression as Expression
 use Rattle.words.specs.declared.walk.Front.{Front}
 use Rattle.words.specs.Rows.{tag_row, type_tag_row, type_row_if, row_if, row_of}
 use Rattle.words.specs.Walks.{front, front_of, own_front, row_front, types_end, expressions_end}
-use Rattle.words.proofs.Rows.{tag_type_tag}
+use Rattle.words.proofs.Rows.{tag_kind, type_tag_kind, tag_type_tag}
 use Rattle.words.proofs.Fronts.{front_out}
 use Rattle.words.proofs.Ends.{type_then, expression_then}
 
@@ -131,20 +131,6 @@ module _ (s : List ℕ) (at n : ℕ) (h : length s ≤ at + 1 + n) where
       ▸-assoc (read_expression n (drop (at + 1 + length (words a) + length (words b)) s)) _ _
       ∙ expression_then s n (at + 1 + length (words a) + length (words b)) _ _ (omega arith) (λ c.
       ap some (omega (arith, length-append (words a) (words b ++ words c), length-append (words b) (words c))))))
-
--- the kind of a row says which table it came from
-tag_kind : (t : Tag) → (tag_row t).kind ≡ ExpressionKind
-tag_kind (constant_tag c) = refl
-tag_kind (leaf_tag k) = refl
-tag_kind lambda_tag = refl
-tag_kind (one_tag o) = refl
-tag_kind (two_tag o) = refl
-tag_kind if_tag = refl
-
-type_tag_kind : (t : TypeTag) → (type_tag_row t).kind ≡ TypeKind
-type_tag_kind (basic_tag b) = refl
-type_tag_kind reference_tag = refl
-type_tag_kind function_tag = refl
 
 module _ (s : List ℕ) (at : ℕ) where
   abbrev tag : ℕ

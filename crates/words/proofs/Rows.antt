@@ -12,8 +12,23 @@ use Rattle.calculus.specs.Tags.{Tag, constant_tag, leaf_tag, lambda_tag, one_tag
 use Rattle.calculus.specs.Tags.{TypeTag, basic_tag, reference_tag, function_tag, type_tags}
 use Rattle.calculus.specs.Reading.{tag_of, type_tag_of}
 use Rattle.calculus.proofs.Options.{none≢some}
+use Rattle.words.specs.declared.table.Kind.TheVariants.{Expression as ExpressionKind, «Type» as TypeKind}
 use Rattle.words.specs.declared.table.Row.{Row}
 use Rattle.words.specs.Rows.{tag_row, type_tag_row, type_row_if, row_if, row_of}
+
+-- the kind of a row says which table it came from
+pub tag_kind : (t : Tag) → (tag_row t).kind ≡ ExpressionKind
+tag_kind (constant_tag c) = refl
+tag_kind (leaf_tag k) = refl
+tag_kind lambda_tag = refl
+tag_kind (one_tag o) = refl
+tag_kind (two_tag o) = refl
+tag_kind if_tag = refl
+
+pub type_tag_kind : (t : TypeTag) → (type_tag_row t).kind ≡ TypeKind
+type_tag_kind (basic_tag b) = refl
+type_tag_kind reference_tag = refl
+type_tag_kind function_tag = refl
 
 -- the row in the place of a tag
 tag_in : (l : List Tag) (k : ℕ) → k < length l → (d : Row) (other : Option Row)
@@ -90,6 +105,6 @@ unfolding row_of
 small w n e = go (tag_of w) (type_tag_of w) e
   where
     go : (o : Maybe Tag) (u : Maybe TypeTag) → row_if o (type_row_if u) ≡ Some n → Small n
-    go none none e = absurd (let z : ◌≡◌ {A = ℕ} 0 1 = cc in omega arith)
+    go none none e = cc
     go none (some t) e = let q : type_tag_row t ≡ n = cc in along Small q (small_type_tag t)
     go (some t) u e = let q : tag_row t ≡ n = cc in along Small q (small_tag t)

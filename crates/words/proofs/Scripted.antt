@@ -4,7 +4,6 @@ use mathlib.Core.Bool.{Bool, false, true}
 use mathlib.Core.List.{List, [], ◌∷◌, append-nil}
 use mathlib.Core.Option.{Option as Maybe, none, some}
 use mathlib.Core.Path.{◌≡◌, ap, ◌∙◌, refl, sym}
-use native.Mathlib.Omega.{arith}
 use lib.ListN.{length}
 use borrow.Author.Tests.{lt-leb, le-leb}
 use Rattle.std.specs.Prelude.{Option, is_some}
@@ -55,14 +54,14 @@ module _ (ws : List ℕ) where
       where
         go : (o : Maybe Expression) → false ≡ is_there o → script_of ws ≡ script_if o → script_of ws ≡ no_script 10
         go none i e = e
-        go (some x) i e = absurd (let z : ◌≡◌ {A = ℕ} 0 1 = cc in omega arith)
+        go (some x) i e = cc
 
     module _ (q : true ≡ is_there (expression_of ws)) where
       tree : (e : Expression) × (expression_of ws ≡ some e)
       tree = go (expression_of ws) q
         where
           go : (o : Maybe Expression) → true ≡ is_there o → (e : Expression) × (o ≡ some e)
-          go none i = absurd (let z : ◌≡◌ {A = ℕ} 0 1 = cc in omega arith)
+          go none i = cc
           go (some e) i = (e, refl)
 
       handle_is : (c : Bool) → HandleTold ws c → (e : Expression) → expression_of ws ≡ some e → holds_handle e ≡ c

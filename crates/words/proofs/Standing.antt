@@ -25,9 +25,10 @@ use Rattle.words.specs.declared.table.Row.{Row}
 use Rattle.words.specs.declared.table.Kind.TheVariants.{Expression as ExpressionKind}
 use Rattle.words.specs.declared.walk.Front.{Front}
 use Rattle.words.specs.Rows.{row_of, tag_row}
-use Rattle.words.specs.Walks.{front as front_with, front_of, types_end, is_kind}
+use Rattle.words.specs.Walks.{front as front_with, front_of, types_end}
 use Rattle.words.specs.Names.{all_words, AllFormed, all_named, TreesAt}
-use Rattle.words.proofs.Fronts.{front_out, front_bare, front_short, front_fine, front_within}
+use Rattle.words.proofs.Fronts.{front_out, front_short, front_within}
+use Rattle.words.proofs.TagFronts.{bare_front, fine_front}
 
 -- the word at p, and the words after it
 record WordAt (s : List ℕ) (p w : ℕ) (ws : List ℕ) : Type 0 where
@@ -49,33 +50,22 @@ pub row_of_tag : (t : Tag) → row_of (tag_word t) ≡ Some (tag_row t)
 unfolding row_of
 row_of_tag t = rw (tag_of_tag_word t) refl
 
-tag_kind : (t : Tag) → is_kind (tag_row t).kind ExpressionKind ≡ true
-tag_kind (constant_tag c) = refl
-tag_kind (leaf_tag k) = refl
-tag_kind lambda_tag = refl
-tag_kind (one_tag o) = refl
-tag_kind (two_tag o) = refl
-tag_kind if_tag = refl
-
 -- the front of a tag without and with an own word
-tagged : (s : List ℕ) (p : ℕ) (t : Tag) → get_or s p 0 ≡ tag_word t → Some (tag_row t) ≡ row_of (get_or s p 0)
-tagged s p t e = sym (ap row_of e ∙ row_of_tag t)
+tag_there : (s : List ℕ) (p : ℕ) (t : Tag) → get_or s p 0 ≡ tag_word t → tag_of (get_or s p 0) ≡ some t
+tag_there s p t e = ap tag_of e ∙ tag_of_tag_word t
 
 bare_tag : (s : List ℕ) (p : ℕ) (t : Tag) (ws : List ℕ) → drop p s ≡ tag_word t ∷ ws → (tag_row t).limit ≡ None
     → front_of s ExpressionKind p ≡ Some (front_with (tag_row t) (p + 1))
 bare_tag s p t ws e l =
     let r = word_at s p (tag_word t) ws e in
-    sym
-    (front_bare s ExpressionKind p r.inside (get_or s p 0) refl (tag_row t) (tagged s p t r.word) (tag_kind t) l)
+    bare_front s p r.inside t (tag_there s p t r.word) l
 
 own_tag : (s : List ℕ) (p : ℕ) (t : Tag) (n b : ℕ) (ws : List ℕ) → drop p s ≡ tag_word t ∷ n ∷ ws
     → (tag_row t).limit ≡ Some b → n < b → front_of s ExpressionKind p ≡ Some (front_with (tag_row t) (p + 1 + 1))
 own_tag s p t n b ws e l h =
     let r = word_at s p (tag_word t) (n ∷ ws) e in
     let q = word_at s (p + 1) n ws r.after in
-    sym
-    (front_fine s ExpressionKind p r.inside (get_or s p 0) refl (tag_row t) (tagged s p t r.word) (tag_kind t) b l
-    q.inside n (sym q.word) h)
+    fine_front s p r.inside t (tag_there s p t r.word) b l q.inside (omega (arith, q.word))
 
 -- an own word that a right front has is there
 pub own_inside : (s : List ℕ) (p : ℕ) (f : Front) (b : ℕ) → Some f ≡ front_of s ExpressionKind p
@@ -88,7 +78,7 @@ own_inside s p f b q z = go (dec_lt (p + 1) (length s))
         let g = front_within s ExpressionKind p f q in
         let short = front_short s ExpressionKind p g.within (get_or s p 0) refl f.row g.row g.kind b z (omega arith) in
         let w : None ≡ Some f = short ∙ sym q in
-        absurd (let z : ◌≡◌ {A = ℕ} 0 1 = cc in omega arith)
+        cc
 
 -- a type that stands in the words ends after its words
 type_passed : (s : List ℕ) (p : ℕ) (A : ScriptType) (ws : List ℕ) → drop p s ≡ type_words A ++ ws
@@ -275,17 +265,17 @@ tag_same t u e = some_inj (sym (tag_of_tag_word t) ∙ ap tag_of e ∙ tag_of_ta
 
 pub leaf_tagged : (k : Leaf) (e : Expression) → tag_word (head_tag e) ≡ tag_word (leaf_tag k) → (n : ℕ) × (e ≡ leaf k n)
 leaf_tagged k (constant c) h =
-    let t = tag_same (constant_tag c) (leaf_tag k) h in absurd (let z : ◌≡◌ {A = ℕ} 0 1 = cc in omega arith)
+    let t = tag_same (constant_tag c) (leaf_tag k) h in cc
 leaf_tagged k (leaf j n) h =
     let t = tag_same (leaf_tag j) (leaf_tag k) h in let q : j ≡ k = cc in (n, ap (λ (i : Leaf). leaf i n) q)
 leaf_tagged k (lambda x A e) h =
-    let t = tag_same lambda_tag (leaf_tag k) h in absurd (let z : ◌≡◌ {A = ℕ} 0 1 = cc in omega arith)
+    let t = tag_same lambda_tag (leaf_tag k) h in cc
 leaf_tagged k (one o e) h =
-    let t = tag_same (one_tag o) (leaf_tag k) h in absurd (let z : ◌≡◌ {A = ℕ} 0 1 = cc in omega arith)
+    let t = tag_same (one_tag o) (leaf_tag k) h in cc
 leaf_tagged k (two o a b) h =
-    let t = tag_same (two_tag o) (leaf_tag k) h in absurd (let z : ◌≡◌ {A = ℕ} 0 1 = cc in omega arith)
+    let t = tag_same (two_tag o) (leaf_tag k) h in cc
 leaf_tagged k (if a b c) h =
-    let t = tag_same if_tag (leaf_tag k) h in absurd (let z : ◌≡◌ {A = ℕ} 0 1 = cc in omega arith)
+    let t = tag_same if_tag (leaf_tag k) h in cc
 
 pub leaf_named : (k : Leaf) (n : ℕ) (es : List Expression) → all_named k (leaf k n ∷ es) ≡ n ∷ all_named k es
 unfolding all_named named
