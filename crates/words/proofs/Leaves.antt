@@ -158,14 +158,6 @@ module _ (s : List ℕ) (at : ℕ) (kind : LeafKind) (p : ℕ) (passed : Passed 
                 names = eq ∙ below_named k e es (λ z. other (n.tag ∙ z));
               }
 
--- where a leaf that was found stands
-pub record Inside (s : List ℕ) (at q : ℕ) : Type 0 where
-  pub low : at ≤ q
-  pub high : q + 1 < length s
-
-pub found_inside : (s : List ℕ) (at : ℕ) (k : LeafKind) (q : ℕ) → NextLeaf s at k (Some q) → Inside s at q
-found_inside s at k q h = let w = h.within in record { low = w.0; high = w.1 }
-
 -- the words of one tree are that tree alone
 whole : (s : List ℕ) (e : Expression) → s ≡ words e → Formed e → TreesAt s 0 (e ∷ [])
 unfolding all_words AllFormed

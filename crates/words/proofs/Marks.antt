@@ -59,14 +59,7 @@ tally_more (true ∷ m) zero h e = cc
 tally_more (false ∷ m) zero h e = omega arith
 tally_more (b ∷ m) (suc i) h e = omega (arith, tally_more m i (le_of_suc-le-suc h) e)
 
--- one more mark: past the marks or there already, and new
-pub mark_kept : (m : List Bool) (n : ℕ) → (n < length m → get_or m n false ≡ true) → m ≡ set m n true
-mark_kept m n h = go (dec_lt n (length m))
-  where
-    go : Dec (n < length m) → m ≡ set m n true
-    go (yes l) = sym (ap (λ (b : Bool). set m n b) (sym (h l)) ∙ set-get_or m n false)
-    go (no l) = sym (set_out m n true (omega arith))
-
+-- one more mark counts one more
 pub mark_new : (m : List Bool) (c n : ℕ) → c ≡ tally m → n < length m → get_or m n false ≡ false
     → c + 1 ≡ tally (set m n true)
 mark_new m c n d h e = omega (arith, tally_more m n h e)
