@@ -9,37 +9,21 @@ pub fn print(word: u16) {
     io::print_decimal(STDOUT_FILENO, word as u64);
 }
 
-// The number without its sign.
-fn magnitude(number: i32) -> u64 {
-    if number < 0 {
-        (0 - number as i64) as u64
-    } else {
-        number as u64
-    }
-}
-
 // A space and the number, with its sign if it is negative.
 pub fn print_signed(number: i32) {
     io::write_all(STDOUT_FILENO, b" ");
     if number < 0 {
         io::write_all(STDOUT_FILENO, b"-");
     }
-    io::print_decimal(STDOUT_FILENO, magnitude(number));
+    io::print_decimal(STDOUT_FILENO, number.unsigned_abs() as u64);
 }
 
-// Each of the words after a space.
-pub fn print_all(words: &[u16]) {
-    let mut i = 0;
-    while i < words.len() {
-        print(words[i]);
-        i += 1;
-    }
-}
-
-// What comes before the answer.
+// What comes before the answer: each of the words after a space.
 pub fn begin(name: &[u8], words: &[u16]) {
     io::write_all(STDOUT_FILENO, name);
-    print_all(words);
+    for word in words {
+        print(*word);
+    }
     io::write_all(STDOUT_FILENO, b" :");
 }
 

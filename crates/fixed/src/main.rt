@@ -2,134 +2,110 @@
 //
 // The input is decimal words in at most 65,536 bytes. Any bytes that are no digits divide them, so lines are only for
 // the reader, and notes without digits may stand between. An example is KIND COUNT and then COUNT words, at most 8,192;
-// a kind may take more words after these, as step will take its pick.
-// KIND is 0: load, 1: check, 2: step, 3: report, 4: signed, 5: less, 6: add, 7: subtract.
+// words that are missing at the end are 0.
+// KIND is 0: load, 4: signed, 5: less, 6: add, 7: subtract; another kind is printed as unknown.
 #![tactic(auto)]
-
-ghost use Rattle.std.specs.Prelude.{◌≡◌, ◌≤◌, length};
 
 mod line;
 mod text;
 
 use line::{begin, end, print, print_signed};
-use text::{first_digit, number_at, words_at};
-use words::closed::closed_end_of;
-use words::names::holds_handle;
+use text::Words;
 use words::numbers::{add, less, signed, subtract};
-use words::walk::{Walk, is_expression};
+use words::reading::word_at;
+use words::script::{ScriptError, check_script};
 
-// Load's number: a script is one closed expression of at most 2,048 words without tags 5 and 6.
+// What an example asks for.
+#[derive(Clone, Copy)]
+enum Kind {
+    Load,
+    Signed,
+    Less,
+    Add,
+    Subtract,
+}
+
+impl Kind {
+    fn of(word: u16) -> Option<Kind> {
+        match word {
+            0 => Some(Kind::Load),
+            4 => Some(Kind::Signed),
+            5 => Some(Kind::Less),
+            6 => Some(Kind::Add),
+            7 => Some(Kind::Subtract),
+            _ => None,
+        }
+    }
+
+    fn name(self) -> &'static [u8] {
+        match self {
+            Kind::Load => b"load",
+            Kind::Signed => b"signed",
+            Kind::Less => b"less",
+            Kind::Add => b"add",
+            Kind::Subtract => b"subtract",
+        }
+    }
+}
+
+// Load's number.
 fn load_number(script: &[u16]) -> u16 {
-    if 2048 < script.len() {
-        return 10;
+    match check_script(script) {
+        Ok(()) => 0,
+        Err(ScriptError::NotFormed) => 10,
+        Err(ScriptError::HoldsHandle) => 11,
+        Err(ScriptError::NotClosed) => 12,
     }
-    if !is_expression(script) {
-        return 10;
-    }
-    if holds_handle(script) {
-        return 11;
-    }
-    let Walk::Ends(_) = closed_end_of(script, 0) else {
-        return 12;
-    };
-    0
 }
 
 // load SCRIPT : the answer
-fn load(example: &[u16]) {
-    begin(b"load", example);
-    print(load_number(example));
-    end();
-}
-
 // signed W : what the word means
-fn signed_word(example: &[u16]) {
-    begin(b"signed", example);
-    print_signed(signed(word_at(example, 0)));
-    end();
-}
-
 // less A B : 1 if the first is smaller by its signed meaning, else 0
-fn less_words(example: &[u16]) {
-    begin(b"less", example);
-    print(less(word_at(example, 0), word_at(example, 1)) as u16);
-    end();
-}
-
 // add A B : the sum
-fn add_words(example: &[u16]) {
-    begin(b"add", example);
-    print(add(word_at(example, 0), word_at(example, 1)));
-    end();
-}
-
 // subtract A B : the difference
-fn subtract_words(example: &[u16]) {
-    begin(b"subtract", example);
-    print(subtract(word_at(example, 0), word_at(example, 1)));
-    end();
-}
-
-fn unknown(example: &[u16]) {
-    begin(b"unknown", example);
-    end();
-}
-
-// The word at `at`, and 0 past the end.
-fn word_at(example: &[u16], at: usize) -> u16 {
-    if at < example.len() { example[at] } else { 0 }
-}
-
-// Prints the line of an example of the kind, and tells where the next example starts: at `after`, unless the kind
-// takes more words of the text from there on.
-fn answer(kind: u16, example: &[u16], text: &[u8], after: usize) -> usize {
+fn print_answer(kind: Kind, example: &[u16]) {
+    let a = word_at(example, 0);
+    let b = word_at(example, 1);
     match kind {
-        0 => load(example),
-        4 => signed_word(example),
-        5 => less_words(example),
-        6 => add_words(example),
-        7 => subtract_words(example),
-        _ => unknown(example),
+        Kind::Load => print(load_number(example)),
+        Kind::Signed => print_signed(signed(a)),
+        Kind::Less => print(less(a, b) as u16),
+        Kind::Add => print(add(a, b)),
+        Kind::Subtract => print(subtract(a, b)),
     }
-    after
 }
 
-// The words of an example, none read yet.
-fn blank() -> [u16; 8192]
-    ensures { 8192 ≡ length result }
-{
-    [0; 8192]
+// Prints the line of an example.
+fn answer(kind: Option<Kind>, example: &[u16]) {
+    match kind {
+        Some(kind) => {
+            begin(kind.name(), example);
+            print_answer(kind, example);
+        }
+        None => begin(b"unknown", example),
+    }
+    end();
 }
 
-// A count of words that an example can have.
-fn within(count: u16) -> usize
-    ensures { result ≤ 8192 }
-{
-    if count < 8192 { count as usize } else { 8192 }
-}
-
-// Reads the words of an example of the kind into `example`, answers it, and tells where the next one starts.
-fn answer_words(kind: u16, text: &[u8], at: usize, example: &mut [u16]) -> usize {
-    let after = words_at(text, at, example);
-    answer(kind, example, text, after)
-}
-
-// Answers the example that starts at `at`, and tells where the next one does.
-fn answer_at(text: &[u8], at: usize) -> usize {
-    let kind = number_at(text, at);
-    let count = number_at(text, kind.next);
-    let n = within(count.value);
-    let mut space = blank();
-    answer_words(kind.value, text, count.next, &mut space[..n])
+// Reads the rest of an example of the kind, and answers it.
+fn answer_next(kind: Option<Kind>, words: &mut Words) {
+    let count = words.next().unwrap_or(0).min(8192) as usize;
+    let mut space = [0; 8192];
+    let example = &mut space[..count];
+    for word in example.iter_mut() {
+        *word = words.next().unwrap_or(0);
+    }
+    answer(kind, example);
 }
 
 // A line for each example. None is shorter than a byte, so the count of bytes bounds the turns.
 fn answer_all(text: &[u8]) {
-    let mut left = text.len();
-    let mut at = first_digit(text, 0);
-    while 0 < left && at < text.len() {
-        at = answer_at(text, at);
-        left -= 1;
+    let mut words = Words { bytes: text.iter() };
+    for _ in text {
+        let Some(kind) = words.next() else {
+            return;
+        };
+        answer_next(Kind::of(kind), &mut words);
     }
 }
 

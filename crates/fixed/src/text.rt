@@ -1,53 +1,35 @@
 // Reads decimal words from text. Bytes that are no digits divide them.
+ghost use Rattle.std.specs.Prelude.{length};
+ghost use Rattle.std.specs.Iterator.{at_most};
 
-// A word of the text, and where the word after it starts.
+use std::slice::Iter;
+
+// The words of the bytes that are still to be read.
 #[derive(Drop)]
-pub struct Number {
-    pub value: u16,
-    pub next: usize,
+pub struct Words<'a> {
+    pub bytes: Iter<'a, u8>,
 }
 
-fn is_digit(byte: u8) -> bool {
-    b'0' <= byte && byte <= b'9'
-}
-
-// The number with one more digit. The codes of the digits are 48 to 57, so their last four bits count.
+// The number with one more digit, by its last 16 bits. The codes of the digits are 48 to 57, so their last four bits
+// count.
 fn with_digit(value: u16, digit: u8) -> u16 {
-    ((value as u32 * 10 + digit as u32 % 16) % 65536) as u16
+    value.wrapping_mul(10).wrapping_add(digit as u16 % 16)
 }
 
-// Where the first digit from `at` on stands.
-pub fn first_digit(text: &[u8], at: usize) -> usize {
-    let mut p = at;
-    while p < text.len() && !is_digit(text[p]) {
-        p += 1;
-    }
-    p
-}
+impl<'a> Iterator for Words<'a> {
+    type Item = u16;
 
-// The number that starts at `at`, by its last 16 bits.
-pub fn number_at(text: &[u8], at: usize) -> Number {
-    let mut value = 0;
-    let mut p = at;
-    while p < text.len() && is_digit(text[p]) {
-        value = with_digit(value, text[p]);
-        p += 1;
-    }
-    Number {
-        value: value,
-        next: first_digit(text, p),
-    }
-}
+    ghost remaining = { λ words. at_most (length words.bytes.rest.now) };
 
-// Fills the words with the numbers from `at` on, and tells where the next one starts.
-pub fn words_at(text: &[u8], at: usize, words: &mut [u16]) -> usize {
-    let mut p = at;
-    let mut i = 0;
-    while i < words.len() {
-        let number = number_at(text, p);
-        words[i] = number.value;
-        p = number.next;
-        i += 1;
+    // The next number, by its last 16 bits.
+    fn next(&mut self) -> Option<u16> {
+        let first = self.bytes.find(|byte| byte.is_ascii_digit())?;
+        let mut value = with_digit(0, *first);
+        while let Some(byte) = self.bytes.next()
+            && byte.is_ascii_digit()
+        {
+            value = with_digit(value, *byte);
+        }
+        Some(value)
     }
-    p
 }

@@ -1,2 +1,0 @@
--- The laws that the proofs of this program's functions share.
-pub mod Magnitudes
