@@ -1,9 +1,8 @@
 -- One step: the section found, the place of work found in it, and the redex worked off by the rule of its tag.
 use Prim.Native.Nat.{ℕ, ◌+◌, ◌<◌, ◌≤◌}
 use mathlib.Core.Path.{◌≡◌, refl, sym, ap, ◌∙◌, subst}
-use mathlib.Core.Bool.{true, false}
 use mathlib.Core.List.{List, ◌∷◌, ◌++◌}
-use mathlib.Core.Option.{Option, some}
+use mathlib.Core.Option.{Option as Maybe, some}
 use native.Mathlib.Omega.{arith}
 use lib.ListN.{length, get_or}
 use Rattle.calculus.specs.Maps.{get}
@@ -15,52 +14,43 @@ use Rattle.calculus.specs.Places.{Context, Place, is_value, works_at, stuck_at, 
 use Rattle.calculus.specs.Steps.{step_at, step_of, step}
 use Rattle.calculus.proofs.Places.{place_decomposed}
 use Rattle.calculus.proofs.Validity.{listed_rising}
-use Rattle.image.specs.declared.parts.Seek.{Seek}
 use Rattle.image.specs.declared.parts.Parts.{Parts}
 use Rattle.image.specs.Standing.{Stands}
-use Rattle.image.specs.Cuts.{before, beyond, PartsAt}
+use Rattle.image.specs.Cuts.{before, beyond, hits, PartsAt}
 use Rattle.image.proofs.Standing.{headed, stands_left, stands_right, stands_at, stands_as}
-use Rattle.image.proofs.Seeking.{before_onward, hit, miss_get, entries_append}
+use Rattle.image.proofs.Seeking.{before_onward, hit, miss_get, entries_append, placed_hit, placed_miss}
+use Rattle.words.specs.declared.tags.Tag.{Tag}
+use Rattle.words.specs.declared.tags.Tag.TheVariants as tag
+use Rattle.words.specs.Tags.{word_of, TagTold}
 use Rattle.place.specs.declared.Spot.{Spot}
 use Rattle.place.specs.declared.Spot.TheVariants.{Value, RedexAt, StuckAt}
 use Rattle.place.specs.Search.{prefix, spot_of, Placed}
 use Rattle.rules.specs.declared.site.Site.{Site}
-use Rattle.rules.specs.declared.site.Act.{Act}
-use Rattle.rules.specs.declared.site.Act.TheVariants.{No}
+use Rattle.std.specs.Prelude.{Option, Some, None, IsSome, Result, Ok, Err}
+use Rattle.rules.specs.declared.site.Moved.{Moved}
+use Rattle.rules.specs.declared.site.Reason.TheVariants.{Shape}
+use Rattle.rules.specs.declared.site.Refusal.{Refusal}
+use Rattle.rules.specs.declared.site.Refusal.TheVariants.{Finished, Stuck, NotLive}
 use Rattle.rules.specs.Work.{Work, Working, Acted, Acts}
 use Rattle.rules.specs.Sections.{Finds}
 use Rattle.rules.specs.Advancing.{Section, LiveAt, StepsAt, Steps}
 use Rattle.rules.proofs.Chunks.{stands_all, listed_here, redex_stands}
-use Rattle.rules.proofs.Redexes.{low_tag}
+use Rattle.rules.proofs.Redexes.{InTags, in_tags}
 
 -- by the tag
 pub work_at : {s : List ℕ} {site : Site} (tag k : ℕ) → tag ≡ get_or s site.place 0 → tag ≡ k
     → Working (get_or s site.place 0) s site → Working k s site
 work_at {s} {site} tag k i e w = subst (λ t. Working t s site) (sym i ∙ e) w
 
-pub work_arithmetic : {s : List ℕ} {site : Site} (tag : ℕ) → tag ≡ get_or s site.place 0
-    → Working (get_or s site.place 0) s site → Working tag s site
-work_arithmetic {s} {site} tag i w = subst (λ t. Working t s site) (sym i) w
-
-pub acts_at : {s : List ℕ} {site : Site} {o : List ℕ} {a : Act} {o' : List ℕ} (tag k : ℕ) → tag ≡ get_or s site.place 0
+pub acts_at : {s : List ℕ} {site : Site} {o : List ℕ} {a : Result Moved Refusal} {o' : List ℕ} (tag k : ℕ) → tag ≡ get_or s site.place 0
     → tag ≡ k
     → Acts k s site o a o' → Acts (get_or s site.place 0) s site o a o'
 acts_at {s} {site} {o} {a} {o'} tag k i e w = subst (λ t. Acts t s site o a o') (sym e ∙ i) w
 
-pub acts_arithmetic : {s : List ℕ} {site : Site} {o : List ℕ} {a : Act} {o' : List ℕ} (tag : ℕ)
-    → tag ≡ get_or s site.place 0
-    → Acts tag s site o a o' → Acts (get_or s site.place 0) s site o a o'
-acts_arithmetic {s} {site} {o} {a} {o'} tag i w = subst (λ t. Acts t s site o a o') i w
-
--- a redex has a tag from 8 on
-pub record Low (tag : ℕ) : Type 0 where
-  pub low : 8 ≤ tag
-
-pub work_low : {s : List ℕ} {site : Site} (tag : ℕ) → tag ≡ get_or s site.place 0
-    → Working (get_or s site.place 0) s site → Low tag
-work_low {s} {site} tag i k =
-    let l = low_tag k.redex (redex_stands s site k.state k.me k.context k.redex k.work) in
-    record { low = subst (λ t. 8 ≤ t) (sym i) l }
+pub work_in_tags : {s : List ℕ} {site : Site} (tag : ℕ) → tag ≡ get_or s site.place 0
+    → Working (get_or s site.place 0) s site → InTags tag
+work_in_tags {s} {site} tag i k =
+    subst InTags (sym i) (in_tags k.redex (redex_stands s site k.state k.me k.context k.redex k.work))
 
 -- the task of a live revision, and its words in the image
 record Live (s : List ℕ) (st : State) (r at : ℕ) : Type 0 where
@@ -114,16 +104,16 @@ module _ (s : List ℕ) (r at : ℕ) (c : Parts) (parts : PartsAt s (at + 1) c) 
   unfolding step
   step_is st v e h = ap (step_of r st) (lives s st r at v e h).live
 
-  pub step_value : q ≡ Value → StepsAt s r at o (No 2) o
+  pub step_value : q ≡ Value → StepsAt s r at o (Err Finished) o
   step_value d =
       record {
-        acts = λ st v e h. subst (λ x. Acted x o (No 2) o) (sym (step_is st v e h))
+        acts = λ st v e h. subst (λ x. Acted x o (Err Finished) o) (sym (step_is st v e h))
             (go st v e h (place (lives s st r at v e h).me.expression) refl);
       }
     where
       go : (st : State) (v : Valid st) (e : s ≡ image st) (h : Section st r at) (p : Place)
           → place (lives s st r at v e h).me.expression ≡ p
-          → Acted (step_at r st (lives s st r at v e h).me p) o (No 2) o
+          → Acted (step_at r st (lives s st r at v e h).me p) o (Err Finished) o
       go st v e h is_value i = (refl, refl)
       go st v e h (works_at E R) i =
           let z : Value ≡ RedexAt (c.expression + length (prefix E))
@@ -134,16 +124,16 @@ module _ (s : List ℕ) (r at : ℕ) (c : Parts) (parts : PartsAt s (at + 1) c) 
           = sym d ∙ spot_is st v e h ∙ ap (spot_of c.expression) i in
           absurd (let y : ◌≡◌ {A = ℕ} 0 1 = cc in omega arith)
 
-  pub step_stuck : (p : ℕ) → q ≡ StuckAt p → StepsAt s r at o (No 4) o
+  pub step_stuck : (p : ℕ) → q ≡ StuckAt p → StepsAt s r at o (Err (Stuck Shape)) o
   step_stuck p d =
       record {
-        acts = λ st v e h. subst (λ x. Acted x o (No 4) o) (sym (step_is st v e h))
+        acts = λ st v e h. subst (λ x. Acted x o (Err (Stuck Shape)) o) (sym (step_is st v e h))
             (go st v e h (place (lives s st r at v e h).me.expression) refl);
       }
     where
       go : (st : State) (v : Valid st) (e : s ≡ image st) (h : Section st r at) (k : Place)
           → place (lives s st r at v e h).me.expression ≡ k
-          → Acted (step_at r st (lives s st r at v e h).me k) o (No 4) o
+          → Acted (step_at r st (lives s st r at v e h).me k) o (Err (Stuck Shape)) o
       go st v e h is_value i =
           let z : StuckAt p ≡ Value = sym d ∙ spot_is st v e h ∙ ap (spot_of c.expression) i in
           absurd (let y : ◌≡◌ {A = ℕ} 0 1 = cc in omega arith)
@@ -214,7 +204,7 @@ module _ (s : List ℕ) (r at : ℕ) (c : Parts) (parts : PartsAt s (at + 1) c) 
           tagged = refl;
         }
 
-    pub step_redex : (a : Act) (o' : List ℕ) → Acts (get_or s p 0) s site o a o' → StepsAt s r at o a o'
+    pub step_redex : (a : Result Moved Refusal) (o' : List ℕ) → Acts (get_or s p 0) s site o a o' → StepsAt s r at o a o'
     step_redex a o' w = record { acts = λ st v e h. go st v e h (at_work st v e h) }
       where
         go : (st : State) (v : Valid st) (e : s ≡ image st) (h : Section st r at) → At st (lives s st r at v e h).me
@@ -225,34 +215,31 @@ module _ (s : List ℕ) (r at : ℕ) (c : Parts) (parts : PartsAt s (at + 1) c) 
             (w.acts st me k.context k.redex k.work refl)
 
 -- r's section in the image, or none
-module _ (s : List ℕ) (r : ℕ) (k : Seek) (f : Finds s r k) (o : List ℕ) where
-  pub section_live : ValidImage s → k.hit ≡ true → LiveAt s r k.at
-  section_live v t =
-      let e = f.answer v.state v.valid v.exactly in
+module _ (s : List ℕ) (r : ℕ) (k : Result ℕ ℕ) (f : Finds s r k) (o : List ℕ) (at : ℕ) where
+  here : k ≡ Ok at → (st : State) → Valid st → s ≡ image st → Section st r at
+  here e st v i =
+      let p = placed_hit (hits r st) _ at (sym e ∙ f.answer st v i) in record { hit = p.0; here = p.1 }
+
+  pub section_live : ValidImage s → k ≡ Ok at → LiveAt s r at
+  section_live v e =
       record {
         state = v.state;
         valid = v.valid;
         is = v.exactly;
-        section = record { hit = sym (ap (λ (k : Seek). k.hit) e) ∙ t; here = ap (λ (k : Seek). k.at) e };
+        section = here e v.state v.valid v.exactly;
       }
 
-  pub steps_live : k.hit ≡ true → (a : Act) (o' : List ℕ) → StepsAt s r k.at o a o' → Steps s r o a o'
-  steps_live t a o' w =
-      record {
-        acts = λ st v i.
-            let e = f.answer st v i in
-            w.acts st v i (record { hit = sym (ap (λ (k : Seek). k.hit) e) ∙ t; here = ap (λ (k : Seek). k.at) e });
-      }
+  pub steps_live : k ≡ Ok at → (a : Result Moved Refusal) (o' : List ℕ) → StepsAt s r at o a o' → Steps s r o a o'
+  steps_live e a o' w = record { acts = λ st v i. w.acts st v i (here e st v i) }
 
-  pub steps_gone : k.hit ≡ false → Steps s r o (No 6) o
+  pub steps_gone : k ≡ Err at → Steps s r o (Err NotLive) o
   unfolding step
-  steps_gone t =
+  steps_gone e =
       record {
         acts = λ st v i.
-            let e = f.answer st v i in
-            let n = miss_get r st (listed_rising ValidTask 63 st 0 v.tasks) (sym (ap (λ (k : Seek). k.hit) e) ∙ t)
-            in
-            subst (λ (m : Option Task). Acted (step_of r st m) o (No 6) o) (sym n) (refl, refl);
+            let h = (placed_miss (hits r st) _ at (sym e ∙ f.answer st v i)).0 in
+            let n = miss_get r st (listed_rising ValidTask 63 st 0 v.tasks) h in
+            subst (λ (m : Maybe Task). Acted (step_of r st m) o (Err NotLive) o) (sym n) (refl, refl);
       }
 
 pub image_long : (s : List ℕ) → ValidImage s → 0 < length s
@@ -268,16 +255,38 @@ unfolding task_words
 at_bound {s} {r} {at} k =
     record { inside = (headed (lives s k.state r at k.valid k.is k.section).stands).inside }
 
--- so what is none of the seven others is arithmetic
-to_12 : (t : ℕ) → 8 ≤ t → (t ≡ 8 → ⊥) → (t ≡ 9 → ⊥) → (t ≡ 10 → ⊥) → (t ≡ 11 → ⊥) → 12 ≤ t
-to_12 t l a b c d = omega arith
+-- the word at a redex is a tag, and none of a value
+pub tag_there : (w : ℕ) (o : Option Tag) → TagTold w o → InTags w → IsSome o
+tag_there w (Some t) h i = refl
+tag_there w None h i = let l = i.high in absurd (omega arith)
 
-to_15 : (t : ℕ) → 12 ≤ t → (t ≡ 12 → ⊥) → (t ≡ 13 → ⊥) → (t ≡ 14 → ⊥) → 15 ≤ t
-to_15 t l a b c = omega arith
+none_left : (t : Tag) → 8 ≤ word_of t → (t ≡ tag.Apply → ⊥) → (t ≡ tag.If → ⊥) → (t ≡ tag.Ref → ⊥) → (t ≡ tag.Read → ⊥)
+    → (t ≡ tag.Assign → ⊥) → (t ≡ tag.Fork → ⊥) → (t ≡ tag.Join → ⊥) → (t ≡ tag.Add → ⊥) → (t ≡ tag.Subtract → ⊥)
+    → (t ≡ tag.Less → ⊥) → ⊥
+none_left tag.Unit l a b c d e f g h i j = omega arith
+none_left tag.False l a b c d e f g h i j = omega arith
+none_left tag.True l a b c d e f g h i j = omega arith
+none_left tag.Number l a b c d e f g h i j = omega arith
+none_left tag.Variable l a b c d e f g h i j = omega arith
+none_left tag.Location l a b c d e f g h i j = omega arith
+none_left tag.Revision l a b c d e f g h i j = omega arith
+none_left tag.Lambda l a b c d e f g h i j = omega arith
+none_left tag.Apply l a b c d e f g h i j = a refl
+none_left tag.If l a b c d e f g h i j = b refl
+none_left tag.Ref l a b c d e f g h i j = c refl
+none_left tag.Read l a b c d e f g h i j = d refl
+none_left tag.Assign l a b c d e f g h i j = e refl
+none_left tag.Fork l a b c d e f g h i j = f refl
+none_left tag.Join l a b c d e f g h i j = g refl
+none_left tag.Add l a b c d e f g h i j = h refl
+none_left tag.Subtract l a b c d e f g h i j = i refl
+none_left tag.Less l a b c d e f g h i j = j refl
 
-pub arithmetic_left : {s : List ℕ} {site : Site} (tag : ℕ) → tag ≡ get_or s site.place 0
-    → Working (get_or s site.place 0) s site
-    → (tag ≡ 8 → ⊥) → (tag ≡ 9 → ⊥) → (tag ≡ 10 → ⊥) → (tag ≡ 11 → ⊥) → (tag ≡ 12 → ⊥) → (tag ≡ 13 → ⊥) → (tag ≡ 14 → ⊥)
-    → (15 ≤ tag) × Working tag s site
-arithmetic_left tag i k a b c d e f g =
-    (to_15 tag (to_12 tag (work_low tag i k).low a b c d) e f g, work_arithmetic tag i k)
+pub no_other : (w : ℕ) (o : Option Tag) (t : Tag) → TagTold w o → o ≡ Some t → InTags w
+    → (t ≡ tag.Apply → ⊥) → (t ≡ tag.If → ⊥) → (t ≡ tag.Ref → ⊥) → (t ≡ tag.Read → ⊥)
+    → (t ≡ tag.Assign → ⊥) → (t ≡ tag.Fork → ⊥) → (t ≡ tag.Join → ⊥) → (t ≡ tag.Add → ⊥) → (t ≡ tag.Subtract → ⊥)
+    → (t ≡ tag.Less → ⊥) → ⊥
+no_other w o t h e i =
+    let k : word_of t ≡ w = subst (TagTold w) e h in
+    let l = i.low in
+    none_left t (omega arith)

@@ -14,36 +14,39 @@ use Rattle.calculus.specs.Reading.{type_end}
 use Rattle.calculus.specs.Redexes.{Lambda, Redex, applying, expression_at}
 use Rattle.calculus.specs.Places.{Context}
 use Rattle.calculus.specs.Steps.{act}
-use Rattle.words.specs.declared.walk.Walk.{Walk}
-use Rattle.words.specs.declared.walk.Walk.TheVariants.{Ends, Broken}
 use Rattle.words.specs.Walks.{walk_of}
 use Rattle.calculus.proofs.Options.{none≢some, some_inj}
 use Rattle.words.proofs.Ends.{end_type_words, type_stands}
 use Rattle.words.proofs.Children.{walk_ends, walk_broken}
 use Rattle.image.specs.Standing.{Stands, EndsAt}
 use Rattle.image.proofs.Standing.{headed, stands_left, stands_right, stands_at}
-use Rattle.write.specs.Cursor.{part, Wrote}
-use Rattle.write.proofs.Cursors.{part_stands, wrote_as, then}
+use Rattle.write.specs.Cursor.{part}
+use Rattle.write.proofs.Cursors.{part_stands}
 use Rattle.substitute.specs.Substitutes.{Substitutes}
 use Rattle.rules.specs.declared.site.Site.{Site}
-use Rattle.rules.specs.declared.site.Act.TheVariants.{To}
+use Rattle.std.specs.Prelude.{Option, Some, None, Ok}
+use Rattle.std.specs.Option.{unwrap_or}
+use Rattle.rules.specs.declared.site.Moved.TheVariants.{To}
 use Rattle.rules.specs.Work.{Work, Acted, Acts}
 use Rattle.rules.specs.Applying.{TypeEnds}
-use Rattle.rules.proofs.Chunks.{redex_stands, replaced_image}
+use denote.MutBor.{MutBor}
+use Rattle.std.specs.Fn.{Once}
+use Rattle.rules.specs.Splicing.{Writes, Spliced}
+use Rattle.rules.proofs.Splicing.{writes_as}
+use Rattle.rules.proofs.Chunks.{redex_stands}
 use Rattle.rules.proofs.Redexes.{Is, is_applying, redex_is}
-use Rattle.rules.proofs.Replacing.{redex_formed}
+use Rattle.rules.proofs.Replacing.{redex_formed, replaced}
 
-pub type_there : (s : List ℕ) (at : ℕ) (w : Walk) (e : ℕ) → w ≡ walk_of (type_end s at) → w ≡ Ends e → TypeEnds s at e
-type_there s at w e q d =
-    let i = walk_ends (type_end s at) w e q d in
-    let t = type_stands s at e i in
-    record { high = t.high; ends = λ A h. some_inj (sym i ∙ end_type_words A s h.rest at h.eq) }
-
-pub type_missing : (s : List ℕ) (at : ℕ) (w : Walk) → w ≡ walk_of (type_end s at) → w ≡ Broken → TypeEnds s at (length s)
-type_missing s at w q d =
+pub type_past : (s : List ℕ) (at : ℕ) (w : Option ℕ) (r : ℕ) → w ≡ walk_of (type_end s at)
+    → r ≡ unwrap_or w (length s) → TypeEnds s at r
+type_past s at (Some e) r q i =
+    let j = walk_ends (type_end s at) e q in
+    let t = type_stands s at e j in
+    record { high = rw i t.high; ends = λ A h. i ∙ some_inj (sym j ∙ end_type_words A s h.rest at h.eq) }
+type_past s at None r q i =
     record {
       high = omega arith;
-      ends = λ A h. none≢some (sym (walk_broken (type_end s at) w q d) ∙ end_type_words A s h.rest at h.eq);
+      ends = λ A h. none≢some (sym (walk_broken (type_end s at) q) ∙ end_type_words A s h.rest at h.eq);
     }
 
 -- where the parts of an application stand
@@ -84,24 +87,24 @@ applied s p x body value end f v g xi t e₁ e₂ h =
       to = omega arith;
     }
 
-pub apply_done : (s : List ℕ) (site : Site) (x body value end : ℕ) → x ≡ get_or s (site.place + 2) 0
-    → TypeEnds s (site.place + 3) body
-    → EndsAt s body value → EndsAt s value end → (o o₁ o₂ o₃ : List ℕ) (y z r : ℕ)
-    → Wrote (part s 0 site.place) o 0 y o₁
-    → Substitutes s body x value end o₁ y z o₂ → Wrote (part s end (length s)) o₂ z r o₃ → Acts 8 s site o (To r) o₃
-apply_done s site x body value end xi t e₁ e₂ o o₁ o₂ o₃ y z r w₁ w₂ w₃ =
+pub apply_done : {F : Type 0} (g : Once F (MutBor (List ℕ) × (ℕ × Unit {0})) (ℕ × (MutBor (List ℕ) × Unit {0}))) (f : F)
+    (s : List ℕ) (site : Site) (x body value end : ℕ) → x ≡ get_or s (site.place + 2) 0
+    → TypeEnds s (site.place + 3) body → EndsAt s body value → EndsAt s value end → (o : List ℕ) (r : ℕ) (o' : List ℕ)
+    → Spliced g f s 0 (length s) site.place end o 0 r o'
+    → ((o : MutBor (List ℕ)) (to r : ℕ) (o' : MutBor (List ℕ)) → g.post f (o, (to, tt)) (r, (o', tt))
+    → Substitutes s body x value end o.now to r o'.now) → Acts 8 s site o (Ok (To r)) o'
+apply_done g f s site x body value end xi t e₁ e₂ o r o' wr h =
     record { acts = λ st me E R w g. go st me E R w (redex_is R (two_tag apply) (redex_stands s site st me E R w) g) }
   where
     go : (st : State) (me : Task) (E : Context) (R : Redex) → Work s site st me E R → Is (two_tag apply) R
-        → Acted (act site.revision st me E R) o (To r) o₃
-    go st me E R w (is_applying f v) =
-        let a = applied s site.place x body value end f v (redex_formed w) xi t e₁ e₂
-        (redex_stands s site st me E (applying f v) w) in
-        let im = replaced_image s site st me E (applying f v) w (substituted f.variable v f.body) end a.to in
-        let k = w₂.wrote f.body v a.formed a.there a.given in (
+        → Acted (act site.revision st me E R) o (Ok (To r)) o'
+    go st me E R w (is_applying d v) =
+        let a = applied s site.place x body value end d v (redex_formed w) xi t e₁ e₂
+        (redex_stands s site st me E (applying d v) w) in
+        let k : Writes g f (words (substituted x v d.body)) =
+        record { at = λ o to r o' p. (h o to r o' p).wrote d.body v a.formed a.there a.given } in (
           r,
           refl,
-          wrote_as (ap
-              (λ i. part s 0 site.place ++ (words (substituted i v f.body) ++ part s end (length s))) a.variable ∙
-              sym im) (then w₁ (then k w₃)),
+          replaced g f s site end o r o' wr st me E (applying d v) w (substituted d.variable v d.body) a.to
+              (writes_as (ap (λ i. words (substituted i v d.body)) a.variable) k),
         )

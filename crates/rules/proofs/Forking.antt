@@ -1,14 +1,16 @@
 -- fork: the child's section among words, the new number, and the image with the child.
-use Prim.Native.Nat.{ℕ, ◌+◌, ◌<◌, ◌≤◌}
+use Prim.Native.Nat.{ℕ, ◌+◌, ◌<◌}
 use mathlib.Core.Path.{◌≡◌, refl, sym, ap, ap₂, ◌∙◌}
-use mathlib.Core.Logic.{◌≢◌}
+use mathlib.Core.Logic.{◌≢◌, ◌⊎◌}
 use mathlib.Core.Bool.{Bool, true, false, cond, ◌||◌}
 use mathlib.Core.List.{List, [], ◌∷◌, ◌++◌, append_assoc}
 use mathlib.Core.Option.{none, some}
 use native.Mathlib.Omega.{arith}
 use lib.ListN.{length, get_or, length-append}
 use lib.Dec.{eqb, ltb}
-use borrow.Author.Tests.{le-ltb, lt-ltb, eq-eqb, ne_eqb}
+use borrow.Author.Tests.{le-ltb, eq-eqb, ne_eqb}
+use denote.MutBor.{MutBor}
+use Rattle.std.specs.Fn.{Once}
 use Rattle.calculus.specs.Maps.{put}
 use Rattle.calculus.specs.Expressions.{revision, fork, Expression, leaf}
 use Rattle.calculus.specs.Tags.{one_tag}
@@ -25,9 +27,6 @@ use Rattle.calculus.proofs.Options.{false→ne}
 use Rattle.calculus.proofs.Maps.{Tri, below as smaller, same, above, tri}
 use Rattle.calculus.proofs.Members.{member_append}
 use Rattle.calculus.proofs.NewNumbers.{smallest_is}
-use Rattle.image.specs.declared.parts.Seek.{Seek}
-use Rattle.image.specs.declared.fresh.Number.{Number}
-use Rattle.image.specs.declared.fresh.Number.TheVariants as number
 use Rattle.image.specs.Standing.{Stands, EndsAt}
 use Rattle.image.specs.Cuts.{before, beyond, hits}
 use Rattle.image.specs.Fresh.{as_option, NewRevision}
@@ -38,17 +37,21 @@ use Rattle.image.proofs.Around.{hits_past}
 use Rattle.place.specs.Search.{suffix}
 use Rattle.words.proofs.Ends.{words_long}
 use Rattle.write.specs.Cursor.{part, Wrote}
-use Rattle.write.proofs.Cursors.{part_stands, wrote_as, wrote_size, then}
+use Rattle.write.proofs.Cursors.{part_stands, wrote_as, then}
 use Rattle.rules.specs.declared.site.Site.{Site}
-use Rattle.rules.specs.declared.site.Act.TheVariants.{To, No}
+use Rattle.std.specs.Prelude.{Option, Some, None, Result, Ok, Err}
+use Rattle.rules.specs.declared.site.Moved.TheVariants.{To}
+use Rattle.rules.specs.declared.site.Refusal.TheVariants.{NoNumber}
 use Rattle.rules.specs.declared.fork.Child.{Child}
 use Rattle.rules.specs.Work.{Work, Acted, Acts}
 use Rattle.rules.specs.Sections.{Finds, WroteOverlaid}
-use Rattle.rules.specs.Forks.{StoresAt, child_words, with, WroteChild, WroteWith, WroteForked}
+use Rattle.rules.specs.Splicing.{Writes, Spliced}
+use Rattle.rules.specs.Forks.{StoresAt, child_words, with, WroteChild, WroteForked}
 use Rattle.rules.proofs.Chunks.{task_words_lem, snapshot_stands, local_stands, redex_stands, me_valid, below, size}
 use Rattle.rules.proofs.Chunks.{count_is, front, section_around, place_is, section_ends, rest_stands, part_rest}
 use Rattle.rules.proofs.Redexes.{Is, is_forking, redex_is}
 use Rattle.rules.proofs.Replacing.{redex_formed}
+use Rattle.rules.proofs.Splicing.{spliced_before, spliced_among, spliced_after}
 use Rattle.rules.proofs.Joining.{at_is}
 
 pub child_done : (s : List ℕ) (site : Site) (child : Child) (o₀ o₁ o₂ o₃ o₄ : List ℕ) (to w x y r : ℕ)
@@ -57,74 +60,34 @@ pub child_done : (s : List ℕ) (site : Site) (child : Child) (o₀ o₁ o₂ o�
     → WroteChild s site child o₀ to r o₄
 unfolding child_words
 child_done s site child o₀ o₁ o₂ o₃ o₄ to w x y r w₁ w₂ w₃ w₄ =
-    let v = then w₃ w₄ in
-    let e₁ = (wrote_size w₁).0 in
-    let e₂ = w₂.size in
-    let (e₃, h) = wrote_size v in
     record {
-      high = omega arith;
-      size = omega arith;
-      wrote =
-          λ me a. then w₁ (then
-          (w₂.wrote me.snapshot me.local a.valid.snapshot a.valid.local a.snapshot a.local) v);
+      wrote = λ me a. then w₁
+          (then (w₂.wrote me.snapshot me.local a.valid.snapshot a.valid.local a.snapshot a.local) (then w₃ w₄));
     }
 
--- the child goes before the words, after them, among them
-module _ (s : List ℕ) (a b : ℕ) (child : Child) (me : Task) where
-  with_before : child.at < a → with s a b child me ≡ part s a b
-  unfolding with
-  with_before h = rw (lt-ltb child.at a h) refl
+-- what a closure writes that writes the child
+module _ {F : Type 0} (g : Once F (MutBor (List ℕ) × (ℕ × Unit {0})) (ℕ × (MutBor (List ℕ) × Unit {0}))) (f : F)
+    (s : List ℕ) (site : Site) (child : Child) where
+  pub record WritesChild : Type 0 where
+    pub at : (o : MutBor (List ℕ)) (to r : ℕ) (o' : MutBor (List ℕ)) → g.post f (o, (to, tt)) (r, (o', tt))
+        → WroteChild s site child o.now to r o'.now
 
-  with_after : a ≤ child.at → b < child.at → with s a b child me ≡ part s a b
-  unfolding with
-  with_after h k = rw (le-ltb child.at a h, lt-ltb b child.at k) refl
+  writes_child : WritesChild → (me : Task) → StoresAt s site me → Writes g f (child_words s child me)
+  writes_child w me a = record { at = λ o to r o' p. (w.at o to r o' p).wrote me a }
 
-  with_among : a ≤ child.at → child.at ≤ b
-      → with s a b child me ≡ part s a child.at ++ (child_words s child me ++ part s child.at b)
-  unfolding with
-  with_among h k = rw (le-ltb child.at a h, le-ltb b child.at k) refl
-
-module _ (s : List ℕ) (a b : ℕ) (site : Site) (child : Child) (o : List ℕ) (to : ℕ) where
-  pub with_out_before : (r : ℕ) (o' : List ℕ) → child.at < a → Wrote (part s a b) o to r o'
-      → WroteWith s a b site child o to r o'
-  with_out_before r o' h w =
+module _ (s : List ℕ) (site : Site) (child : Child) (n : ℕ) (o₀ o₁ o₂ o₃ o₄ : List ℕ) (v w x r : ℕ)
+    {F G : Type 0} (g : Once F (MutBor (List ℕ) × (ℕ × Unit {0})) (ℕ × (MutBor (List ℕ) × Unit {0}))) (f : F)
+    (h : Once G (MutBor (List ℕ) × (ℕ × Unit {0})) (ℕ × (MutBor (List ℕ) × Unit {0}))) (k : G) where
+  pub forked_done : WritesChild g f s site child → WritesChild h k s site child
+      → n ≡ get_or s 0 0 → Wrote ((n + 1) ∷ []) o₀ 0 v o₁
+      → Spliced g f s 1 site.place child.at child.at o₁ v w o₂ → Wrote (6 ∷ child.revision ∷ []) o₂ w x o₃
+      → Spliced h k s child.end (length s) child.at child.at o₃ x r o₄ → WroteForked s site child o₀ r o₄
+  forked_done c₁ c₂ i w₁ w₂ w₃ w₄ =
       record {
-        high = (wrote_size w).1;
-        size = (wrote_size w).0;
-        wrote = λ me at. wrote_as (sym (with_before s a b child me h)) w;
+        wrote = λ me a. then (wrote_as (ap (λ (n : ℕ). (n + 1) ∷ []) i) w₁)
+            (then (w₂.wrote (child_words s child me) (writes_child g f s site child c₁ me a))
+            (then w₃ (w₄.wrote (child_words s child me) (writes_child h k s site child c₂ me a))));
       }
-
-  pub with_out_after : (r : ℕ) (o' : List ℕ) → a ≤ child.at → b < child.at → Wrote (part s a b) o to r o'
-      → WroteWith s a b site child o to r o'
-  with_out_after r o' h k w =
-      record {
-        high = (wrote_size w).1;
-        size = (wrote_size w).0;
-        wrote = λ me at. wrote_as (sym (with_after s a b child me h k)) w;
-      }
-
-  pub with_in : (x y r : ℕ) (o₁ o₂ o₃ : List ℕ) → a ≤ child.at → child.at ≤ b → Wrote (part s a child.at) o to x o₁
-      → WroteChild s site child o₁ x y o₂ → Wrote (part s child.at b) o₂ y r o₃
-      → WroteWith s a b site child o to r o₃
-  with_in x y r o₁ o₂ o₃ h k w₁ w₂ w₃ =
-      let e₁ = (wrote_size w₁).0 in
-      let e₂ = w₂.size in
-      let (e₃, i) = wrote_size w₃ in
-      record {
-        high = omega arith;
-        size = omega arith;
-        wrote = λ me at. wrote_as (sym (with_among s a b child me h k)) (then w₁ (then (w₂.wrote me at) w₃));
-      }
-
-pub forked_done : (s : List ℕ) (site : Site) (child : Child) (n : ℕ) (o₀ o₁ o₂ o₃ o₄ o₅ : List ℕ) (v w x y r : ℕ)
-    → n ≡ get_or s 0 0 → Wrote ((n + 1) ∷ []) o₀ 0 v o₁ → WroteWith s 1 site.place site child o₁ v w o₂
-    → Wrote (6 ∷ []) o₂ w x o₃ → Wrote (child.revision ∷ []) o₃ x y o₄
-    → WroteWith s child.end (length s) site child o₄ y r o₅ → WroteForked s site child o₀ r o₅
-forked_done s site child n o₀ o₁ o₂ o₃ o₄ o₅ v w x y r i w₁ w₂ w₃ w₄ w₅ =
-    record {
-      wrote = λ me a. then (wrote_as (ap (λ (n : ℕ). (n + 1) ∷ []) i) w₁)
-          (then (w₂.wrote me a) (then w₃ (then w₄ (w₅.wrote me a))));
-    }
 
 -- a new number is no live revision's
 or_no : (a b : Bool) → (a || b) ≡ false → (a ≡ false) × (b ≡ false)
@@ -251,11 +214,11 @@ module _
           let l_g = length-append G (r ∷ H) in
           let e₁ = (body end ends).1 in
           let p₁ : with s 1 p c me ≡ F ++ ((q ∷ section) ++ (G ++ (r ∷ H)))
-          = with_among s 1 p c me (omega arith) (omega arith)
+          = spliced_among s 1 p at at (child_words s c me) (omega arith) (omega arith)
           ∙ ap₂ (λ a b. a ++ b) (part_stands at (stands_left F _ t₁) a₁)
           (ap₂ (λ a b. a ++ b) section_is (part_stands p (stands_left (G ++ (r ∷ H)) T t₂) (omega arith))) in
           let p₂ : with s end (length s) c me ≡ suffix E ++ entries task_words Y
-          = with_before s end (length s) c me (omega arith)
+          = spliced_before s end (length s) at at (child_words s c me) (omega arith)
           ∙ part_rest s site st me E (forking z) w end e₁ in
           let pu : after ≡ (before q X ++ ((q, forked me z) ∷ beyond q X)) ++ ((r, parent) ∷ Y)
           = ap (put q (forked me z)) put_parent ∙ put_left r parent Y q l (forked me z) X
@@ -304,10 +267,10 @@ module _
           let wl = words_long (expression_at (forking z)) in
           let a₁ : at ≡ end + length (suffix E ++ F) = omega arith in
           let p₁ : with s 1 p c me ≡ entries task_words X ++ (r ∷ H)
-          = with_after s 1 p c me (omega arith) (omega arith)
+          = spliced_after s 1 p at at (child_words s c me) (omega arith) (omega arith)
           ∙ part_stands p (stands_left (entries task_words X ++ (r ∷ H)) T t₁) pl in
           let p₂ : with s end (length s) c me ≡ (suffix E ++ F) ++ ((q ∷ section) ++ G)
-          = with_among s end (length s) c me (omega arith) (omega arith)
+          = spliced_among s end (length s) at at (child_words s c me) (omega arith) (omega arith)
           ∙ ap₂ (λ a b. a ++ b) (part_stands at (stands_left (suffix E ++ F) G t₂) a₁)
           (ap₂ (λ a b. a ++ b) section_is
           (part_stands (length s) (stands_at at (sym a₁) (stands_right (suffix E ++ F) G t₂)) (omega arith))) in
@@ -339,26 +302,26 @@ module _
           go (above l) = wrote_as (right_image l) wr
 
 -- the answers
-module _ (s : List ℕ) (site : Site) (n : Number) (f : NewRevision s n) (o : List ℕ) where
-  pub fork_full : n ≡ number.No → Acts 13 s site o (No 7) o
+module _ (s : List ℕ) (site : Site) (n : Option ℕ) (f : NewRevision s n) (o : List ℕ) where
+  pub fork_full : n ≡ None → Acts 13 s site o (Err NoNumber) o
   fork_full e =
       record { acts = λ st me E R w g. go st me E R w (redex_is R (one_tag fork) (redex_stands s site st me E R w) g) }
     where
       go : (st : State) (me : Task) (E : Context) (R : Redex) → Work s site st me E R → Is (one_tag fork) R
-          → Acted (act site.revision st me E R) o (No 7) o
+          → Acted (act site.revision st me E R) o (Err NoNumber) o
       go st me E R w (is_forking z) =
           let h : new_revision st ≡ none = sym (f.is st w.valid w.is) ∙ ap as_option e in
           rw h (refl, refl)
 
-  pub fork_done : (q : ℕ) → n ≡ number.Is q → (end : ℕ) → EndsAt s (site.place + 1) end → (k : Seek) → Finds s q k
-      → (r : ℕ) (o' : List ℕ)
-      → WroteForked s site (record { revision = q; at = k.at; from = site.place + 1; end = end }) o r o'
-      → Acts 13 s site o (To r) o'
-  fork_done q e end ends k kf r o' wr =
+  pub fork_done : (q : ℕ) → n ≡ Some q → (end : ℕ) → EndsAt s (site.place + 1) end → (k : Result ℕ ℕ) → Finds s q k
+      → (j at : ℕ) → (k ≡ Ok j) ⊎ (k ≡ Err j) → at ≡ j → (r : ℕ) (o' : List ℕ)
+      → WroteForked s site (record { revision = q; at = at; from = site.place + 1; end = end }) o r o'
+      → Acts 13 s site o (Ok (To r)) o'
+  fork_done q e end ends k kf j at i ji r o' wr =
       record { acts = λ st me E R w g. go st me E R w (redex_is R (one_tag fork) (redex_stands s site st me E R w) g) }
     where
       go : (st : State) (me : Task) (E : Context) (R : Redex) → Work s site st me E R → Is (one_tag fork) R
-          → Acted (act site.revision st me E R) o (To r) o'
+          → Acted (act site.revision st me E R) o (Ok (To r)) o'
       go st me E R w (is_forking z) =
           let h : new_revision st ≡ some q = sym (f.is st w.valid w.is) ∙ ap as_option e in
           let a : StoresAt s site me
@@ -367,6 +330,6 @@ module _ (s : List ℕ) (site : Site) (n : Number) (f : NewRevision s n) (o : Li
             snapshot = snapshot_stands s site st me E (forking z) w;
             local = local_stands s site st me E (forking z) w;
           } in
-          let at = at_is s st w.valid w.is q k kf in
-          let x = next_image s site st me E z w q h k.at end at ends o r o' (wr.wrote me a) in
+          let at_q = ji ∙ at_is s st w.valid w.is q k kf j i in
+          let x = next_image s site st me E z w q h at end at_q ends o r o' (wr.wrote me a) in
           rw h (r, refl, x)

@@ -1,8 +1,8 @@
 -- join: the section that is joined, and the image without it.
 use Prim.Native.Nat.{ℕ, suc, ◌+◌, ◌-◌, ◌<◌, ◌≤◌}
 use mathlib.Core.Path.{◌≡◌, refl, sym, ap, ap₂, ◌∙◌, subst}
-use mathlib.Core.Logic.{◌≢◌}
-use mathlib.Core.Bool.{Bool, true, false, cond, not}
+use mathlib.Core.Logic.{◌≢◌, ◌⊎◌, inl, inr}
+use mathlib.Core.Bool.{Bool, true, false, cond}
 use mathlib.Core.List.{List, [], ◌∷◌, ◌++◌, append_assoc}
 use mathlib.Core.Option.{none, some}
 use native.Mathlib.Omega.{arith}
@@ -24,12 +24,11 @@ use Rattle.calculus.proofs.Maps.{Tri, below as smaller, same, above, tri, or_els
 use Rattle.calculus.proofs.Images.{listed_length}
 use Rattle.calculus.proofs.Places.{decomposed_not_value}
 use Rattle.calculus.proofs.Validity.{listed_get, listed_rising}
-use Rattle.image.specs.declared.parts.Seek.{Seek}
 use Rattle.image.specs.declared.parts.Parts.{Parts}
 use Rattle.image.specs.Standing.{Stands}
 use Rattle.image.specs.Cuts.{before, onward, beyond, hits, Cut, PartsAt}
 use Rattle.image.proofs.Standing.{headed, stands_left, stands_right, stands_at, stands_as}
-use Rattle.image.proofs.Seeking.{before_onward, Hit, hit, miss, entries_append}
+use Rattle.image.proofs.Seeking.{before_onward, Hit, hit, miss, entries_append, placed_hit, placed_miss}
 use Rattle.image.proofs.Around.{Below, below_parts, below_append, remove_left, remove_right, before_left, before_right}
 use Rattle.image.proofs.Around.{hits_left, hits_right}
 use Rattle.place.specs.Search.{top_tag, prefix, suffix}
@@ -37,15 +36,19 @@ use Rattle.place.proofs.Tags.{told_small, told_large}
 use Rattle.write.specs.Cursor.{part, Wrote}
 use Rattle.write.proofs.Cursors.{part_stands, wrote_as}
 use Rattle.rules.specs.declared.site.Site.{Site}
-use Rattle.rules.specs.declared.site.Act.{Act}
-use Rattle.rules.specs.declared.site.Act.TheVariants.{To, No}
+use Rattle.std.specs.Prelude.{Result, Ok, Err}
+use Rattle.rules.specs.declared.site.Moved.{Moved}
+use Rattle.rules.specs.declared.site.Moved.TheVariants.{To, Emptied}
+use Rattle.rules.specs.declared.site.Refusal.{Refusal}
+use Rattle.rules.specs.declared.site.Refusal.TheVariants.{Waits}
 use Rattle.rules.specs.Work.{Work, Working, Acted, Acts}
-use Rattle.rules.specs.Sections.{Finds, but, Joinable, WroteJoined}
+use Rattle.rules.specs.Splicing.{spliced}
+use Rattle.rules.specs.Sections.{Finds, Joinable, WroteJoined}
 use Rattle.rules.proofs.Chunks.{stands_all, image_put, task_words_lem, redex_stands, local_stands, me_valid}
 use Rattle.rules.proofs.Chunks.{below, size, count_is, sections_stand, section_ends, rest_stands, part_prefix}
 use Rattle.rules.proofs.Chunks.{part_rest}
 use Rattle.rules.proofs.Redexes.{Is, is_joining, redex_is}
-use Rattle.rules.proofs.Sectioning.{but_before, but_among, but_after}
+use Rattle.rules.proofs.Splicing.{spliced_before, spliced_among, spliced_after}
 
 -- maps one after the other, and smaller keys
 get_append : {A : Type 0} (k : ℕ) (m n : Map A) → get k (m ++ n) ≡ or_else (get k m) (get k n)
@@ -81,48 +84,43 @@ top_at s p (one o a) h = (headed h).is
 top_at s p (two o a b) h = (headed h).is
 top_at s p (if a b c) h = (headed h).is
 
-not_no : (b : Bool) → not b ≡ false → b ≡ true
-not_no true h = refl
-not_no false h = let z : ◌≡◌ {A = ℕ} 0 1 = cc in absurd (omega arith)
-
-not_yes : (b : Bool) → not b ≡ true → b ≡ false
-not_yes false h = refl
-not_yes true h = let z : ◌≡◌ {A = ℕ} 0 1 = cc in absurd (omega arith)
-
 -- the section that is found for q
-module _ (s : List ℕ) (st : State) (v : Valid st) (is : s ≡ image st) (q : ℕ) (k : Seek) (f : Finds s q k) where
-  pub at_is : k.at ≡ 1 + length (entries task_words (before q st))
-  at_is = ap (λ (z : Seek). z.at) (f.answer st v is)
+module _ (s : List ℕ) (st : State) (v : Valid st) (is : s ≡ image st) (q : ℕ) (k : Result ℕ ℕ) (f : Finds s q k) where
+  pub at_is : (at : ℕ) → (k ≡ Ok at) ⊎ (k ≡ Err at) → at ≡ 1 + length (entries task_words (before q st))
+  at_is at (inl e) = (placed_hit (hits q st) _ at (sym e ∙ f.answer st v is)).1
+  at_is at (inr e) = (placed_miss (hits q st) _ at (sym e ∙ f.answer st v is)).1
 
-  hit_is : k.hit ≡ hits q st
-  hit_is = ap (λ (z : Seek). z.hit) (f.answer st v is)
+  gone : (at : ℕ) → k ≡ Err at → get q st ≡ none
+  gone at e =
+      (miss q st (listed_rising ValidTask 63 st 0 v.tasks)
+      (placed_miss (hits q st) _ at (sym e ∙ f.answer st v is)).0).get
 
-  gone : not k.hit ≡ true → get q st ≡ none
-  gone h = (miss q st (listed_rising ValidTask 63 st 0 v.tasks) (sym hit_is ∙ not_yes k.hit h)).get
+  module _ (at : ℕ) (e : k ≡ Ok at) where
+    found : (hits q st ≡ true) × (at ≡ 1 + length (entries task_words (before q st)))
+    found = placed_hit (hits q st) _ at (sym e ∙ f.answer st v is)
 
-  module _ (h : not k.hit ≡ false) where
     live : Hit q st
-    live = hit q st (sym hit_is ∙ not_no k.hit h)
+    live = hit q st found.0
 
-    section_stands : Stands s k.at (q ∷ (task_words live.here ++ entries task_words (beyond q st)))
+    section_stands : Stands s at (q ∷ (task_words live.here ++ entries task_words (beyond q st)))
     unfolding image
     section_stands =
         let t = stands_at 1 refl (headed (stands_all s (length st ∷ entries task_words st) is)).more in
-        stands_at k.at (sym at_is)
+        stands_at at (sym found.1)
         (stands_right (entries task_words (before q st)) _ (stands_as (entries_cut q st live) t))
 
     live_valid : ValidTask live.here
     live_valid = (listed_get ValidTask 63 st 0 q live.here v.tasks live.get).2
 
     -- its parts
-    module _ (c : Parts) (p : PartsAt s (k.at + 1) c) where
-      task_stands : Stands s (k.at + 1) (task_words live.here)
+    module _ (c : Parts) (p : PartsAt s (at + 1) c) where
+      task_stands : Stands s (at + 1) (task_words live.here)
       task_stands = stands_left (task_words live.here) _ (headed section_stands).more
 
-      parts_cut : Cut (k.at + 1) live.here c
+      parts_cut : Cut (at + 1) live.here c
       parts_cut = p.cut live.here live_valid task_stands
 
-      stores_stand : Stands s (k.at + 1 + length (counted cell_words live.here.snapshot))
+      stores_stand : Stands s (at + 1 + length (counted cell_words live.here.snapshot))
           (counted cell_words live.here.local ++ words live.here.expression)
       unfolding task_words
       stores_stand =
@@ -145,17 +143,16 @@ module _ (s : List ℕ) (st : State) (v : Valid st) (is : s ≡ image st) (q : �
       tag_is = top_at s c.expression live.here.expression expression_stands
 
 -- what the parts of the section ask
-pub section_inside : (s : List ℕ) (site : Site) (q : ℕ) (k : Seek) → Working 14 s site → Finds s q k
-    → not k.hit ≡ false
-    → k.at + 1 ≤ length s
-section_inside s site q k g f h =
-    let i = (headed (section_stands s g.state g.work.valid g.work.is q k f h)).inside in omega arith
+pub section_inside : (s : List ℕ) (site : Site) (q : ℕ) (k : Result ℕ ℕ) (at : ℕ) → Working 14 s site → Finds s q k
+    → k ≡ Ok at → at + 1 ≤ length s
+section_inside s site q k at g f e =
+    let i = (headed (section_stands s g.state g.work.valid g.work.is q k f at e)).inside in omega arith
 
-pub store_inside : (s : List ℕ) (site : Site) (q : ℕ) (k : Seek) (c : Parts) → Working 14 s site → Finds s q k
-    → not k.hit ≡ false → PartsAt s (k.at + 1) c → Joinable s site c.local
-store_inside s site q k c g f h p =
-    let a = headed (store_stands s g.state g.work.valid g.work.is q k f h c p) in
-    let v = live_valid s g.state g.work.valid g.work.is q k f h in
+pub store_inside : (s : List ℕ) (site : Site) (q : ℕ) (k : Result ℕ ℕ) (at : ℕ) (c : Parts) → Working 14 s site
+    → Finds s q k → k ≡ Ok at → PartsAt s (at + 1) c → Joinable s site c.local
+store_inside s site q k at c g f h p =
+    let a = headed (store_stands s g.state g.work.valid g.work.is q k f at h c p) in
+    let v = live_valid s g.state g.work.valid g.work.is q k f at h in
     let n = listed_length ValidCell 255 _ 0 v.local (omega arith) in
     let e = a.is in
     record { working = g; inside = a.inside; few = omega arith }
@@ -249,8 +246,8 @@ module _ (s : List ℕ) (site : Site) (st : State) (me : Task) (E : Context) (q 
       abbrev K : Task
       K = H.here
 
-      left_image : q < r → (get_or s 0 0 - 1) ∷ (but s 1 site.local from end
-          ++ (O K ++ (part s site.expression p ++ (0 ∷ but s (p + 3) (length s) from end)))) ≡ image (put r (joined K)
+      left_image : q < r → (get_or s 0 0 - 1) ∷ (spliced s 1 site.local from end []
+          ++ (O K ++ (part s site.expression p ++ (0 ∷ spliced s (p + 3) (length s) from end [])))) ≡ image (put r (joined K)
           (remove q st))
       unfolding words
       left_image l =
@@ -279,13 +276,13 @@ module _ (s : List ℕ) (site : Site) (st : State) (me : Task) (E : Context) (q 
           let i = w.local in
           let j = w.expression in
           let k = w.place in
-          let p₁ : but s 1 site.local from end ≡ F ++ (G ++ (r ∷ S))
-          = but_among s 1 site.local from end (omega arith) (omega arith)
+          let p₁ : spliced s 1 site.local from end [] ≡ F ++ (G ++ (r ∷ S))
+          = spliced_among s 1 site.local from end [] (omega arith) (omega arith)
           ∙ ap₂ (λ a b. a ++ b) (part_stands from (stands_left F _ t₁) f₁)
           (part_stands site.local (stands_left (G ++ (r ∷ S)) _ t₄) (omega arith)) in
           let p₂ = part_prefix s site st me E (joining q) w in
-          let p₃ : but s (p + 3) (length s) from end ≡ suffix E ++ entries task_words Y
-          = but_before s (p + 3) (length s) from end (omega arith)
+          let p₃ : spliced s (p + 3) (length s) from end [] ≡ suffix E ++ entries task_words Y
+          = spliced_before s (p + 3) (length s) from end [] (omega arith)
           ∙ part_rest s site st me E (joining q) w (p + 3) refl in
           let rm : remove q st ≡ (before q X ++ beyond q X) ++ ((r, me) ∷ Y)
           = ap (remove q) w.split ∙ remove_left r me Y q l X h_x ∙ ap (λ z. z ++ ((r, me) ∷ Y)) HX.remove in
@@ -303,8 +300,8 @@ module _ (s : List ℕ) (site : Site) (st : State) (me : Task) (E : Context) (q 
           ∙ sym (im ∙ ap (λ z. (get_or s 0 0 - 1) ∷
           (z ++ (r ∷ ((S ++ (O K ++ (prefix E ++ (0 ∷ suffix E)))) ++ entries task_words Y)))) e_u)
 
-      right_image : r < q → (get_or s 0 0 - 1) ∷ (but s 1 site.local from end
-          ++ (O K ++ (part s site.expression p ++ (0 ∷ but s (p + 3) (length s) from end)))) ≡ image (put r (joined K)
+      right_image : r < q → (get_or s 0 0 - 1) ∷ (spliced s 1 site.local from end []
+          ++ (O K ++ (part s site.expression p ++ (0 ∷ spliced s (p + 3) (length s) from end [])))) ≡ image (put r (joined K)
           (remove q st))
       unfolding words
       right_image l =
@@ -343,12 +340,12 @@ module _ (s : List ℕ) (site : Site) (st : State) (me : Task) (E : Context) (q 
           let f₂ : from ≡ p + 3 + length (suffix E ++ F) = omega arith in
           let u₂ = (headed (stands_at from (sym f₂) (stands_right (suffix E ++ F) _ u₁))).more in
           let u₃ = stands_at end (sym ei) (stands_right (task_words K) G u₂) in
-          let p₁ : but s 1 site.local from end ≡ entries task_words X ++ (r ∷ S)
-          = but_after s 1 site.local from end (omega arith) (omega arith)
+          let p₁ : spliced s 1 site.local from end [] ≡ entries task_words X ++ (r ∷ S)
+          = spliced_after s 1 site.local from end [] (omega arith) (omega arith)
           ∙ part_stands site.local (stands_left (entries task_words X ++ (r ∷ S)) _ t₁) (omega arith) in
           let p₂ = part_prefix s site st me E (joining q) w in
-          let p₃ : but s (p + 3) (length s) from end ≡ (suffix E ++ F) ++ G
-          = but_among s (p + 3) (length s) from end (omega arith) (omega arith)
+          let p₃ : spliced s (p + 3) (length s) from end [] ≡ (suffix E ++ F) ++ G
+          = spliced_among s (p + 3) (length s) from end [] (omega arith) (omega arith)
           ∙ ap₂ (λ a b. a ++ b) (part_stands from (stands_left (suffix E ++ F) _ u₁) f₂)
           (part_stands (length s) u₃ (omega arith)) in
           let rm : remove q st ≡ X ++ ((r, me) ∷ (before q Y ++ beyond q Y))
@@ -365,8 +362,8 @@ module _ (s : List ℕ) (site : Site) (st : State) (me : Task) (E : Context) (q 
           ∙ sym (im ∙ ap (λ z. (get_or s 0 0 - 1) ∷
           (entries task_words X ++ (r ∷ ((S ++ (O K ++ (prefix E ++ (0 ∷ suffix E)))) ++ z)))) e_u)
 
-      next_image : q ≢ r → (o : List ℕ) (to : ℕ) (o' : List ℕ) → Wrote ((get_or s 0 0 - 1) ∷ (but s 1 site.local from end
-          ++ (O K ++ (part s site.expression p ++ (0 ∷ but s (p + 3) (length s) from end))))) o 0 to o'
+      next_image : q ≢ r → (o : List ℕ) (to : ℕ) (o' : List ℕ) → Wrote ((get_or s 0 0 - 1) ∷ (spliced s 1 site.local from end []
+          ++ (O K ++ (part s site.expression p ++ (0 ∷ spliced s (p + 3) (length s) from end []))))) o 0 to o'
           → Wrote (image (put r (joined K) (remove q st))) o 0 to o'
       next_image d o to o' wr = go (tri q r)
         where
@@ -376,8 +373,8 @@ module _ (s : List ℕ) (site : Site) (st : State) (me : Task) (E : Context) (q 
           go (above l) = wrote_as (right_image l) wr
 
 -- the answers
-module _ (s : List ℕ) (site : Site) (q : ℕ) (qi : q ≡ get_or s (site.place + 2) 0) (k : Seek) (f : Finds s q k) where
-  for_joins : (o : List ℕ) (a : Act) (o' : List ℕ)
+module _ (s : List ℕ) (site : Site) (q : ℕ) (qi : q ≡ get_or s (site.place + 2) 0) (k : Result ℕ ℕ) (f : Finds s q k) where
+  for_joins : (o : List ℕ) (a : Result Moved Refusal) (o' : List ℕ)
       → ((st : State) (me : Task) (E : Context) → Work s site st me E (joining q)
       → Acted (act site.revision st me E (joining q)) o a o')
       → Acts 14 s site o a o'
@@ -391,38 +388,37 @@ module _ (s : List ℕ) (site : Site) (q : ℕ) (qi : q ≡ get_or s (site.place
           subst (λ z. Work s site st me E (joining z) → Acted (act site.revision st me E (joining z)) o a o') e
           (h st me E) w
 
-  pub join_gone : not k.hit ≡ true → (o : List ℕ) → Acts 14 s site o (No 1) o
-  join_gone h o = for_joins o (No 1) o (λ st me E w. rw (gone s st w.valid w.is q k f h) (refl, refl))
+  pub join_gone : (at : ℕ) → k ≡ Err at → (o : List ℕ) → Acts 14 s site o (Ok Emptied) o
+  join_gone at h o = for_joins o (Ok Emptied) o (λ st me E w. rw (gone s st w.valid w.is q k f at h) (refl, refl))
 
-  module _ (h : not k.hit ≡ false) (c : Parts) (p : PartsAt s (k.at + 1) c) (y : ℕ)
+  module _ (at : ℕ) (h : k ≡ Ok at) (c : Parts) (p : PartsAt s (at + 1) c) (y : ℕ)
       (yi : y ≡ get_or s c.expression 0)
       (o : List ℕ) where
-    pub join_waits : 7 < y → Acts 14 s site o (No 3) o
-    join_waits l = for_joins o (No 3) o go
+    pub join_waits : 7 < y → Acts 14 s site o (Err Waits) o
+    join_waits l = for_joins o (Err Waits) o go
       where
         go : (st : State) (me : Task) (E : Context) → Work s site st me E (joining q)
-            → Acted (act site.revision st me E (joining q)) o (No 3) o
+            → Acted (act site.revision st me E (joining q)) o (Err Waits) o
         go st me E w =
-            let L = live s st w.valid w.is q k f h in
-            let t = yi ∙ tag_is s st w.valid w.is q k f h c p in
+            let L = live s st w.valid w.is q k f at h in
+            let t = yi ∙ tag_is s st w.valid w.is q k f at h c p in
             rw (L.get, told_large L.here.expression t l) (refl, refl)
 
-    pub join_done : y ≤ 7 → (r : ℕ) (o' : List ℕ) → WroteJoined s site k.at c.end c.local o r o'
-        → Acts 14 s site o (To r) o'
+    pub join_done : y ≤ 7 → (r : ℕ) (o' : List ℕ) → WroteJoined s site at c.end c.local o r o'
+        → Acts 14 s site o (Ok (To r)) o'
     unfolding O
-    join_done l r o' wr = for_joins o (To r) o' go
+    join_done l r o' wr = for_joins o (Ok (To r)) o' go
       where
         go : (st : State) (me : Task) (E : Context) → Work s site st me E (joining q)
-            → Acted (act site.revision st me E (joining q)) o (To r) o'
+            → Acted (act site.revision st me E (joining q)) o (Ok (To r)) o'
         go st me E w =
-            let L = live s st w.valid w.is q k f h in
-            let v = told_small L.here.expression (yi ∙ tag_is s st w.valid w.is q k f h c p) l in
-            let t = sym (hit_is s st w.valid w.is q k f) ∙ not_no k.hit h in
-            let cut = parts_cut s st w.valid w.is q k f h c p in
+            let L = live s st w.valid w.is q k f at h in
+            let v = told_small L.here.expression (yi ∙ tag_is s st w.valid w.is q k f at h c p) l in
+            let (t, at_q) = found s st w.valid w.is q k f at h in
+            let cut = parts_cut s st w.valid w.is q k f at h c p in
             let d = other s site st me E q w L.here L.get v in
             let x = wr.wrote me.local L.here.local (me_valid s site st me E (joining q) w).local
-            (live_valid s st w.valid w.is q k f h).local (local_stands s site st me E (joining q) w)
-            (store_stands s st w.valid w.is q k f h c p) in
-            let at = at_is s st w.valid w.is q k f in
-            let n = next_image s site st me E q w L t k.at c.end at cut.end d o r o' x in
+            (live_valid s st w.valid w.is q k f at h).local (local_stands s site st me E (joining q) w)
+            (store_stands s st w.valid w.is q k f at h c p) in
+            let n = next_image s site st me E q w L t at c.end at_q cut.end d o r o' x in
             rw (L.get, v) (r, refl, n)

@@ -59,26 +59,6 @@ redex_is R t h e =
     let k = tagged R h in
     subst (λ t. Is t R) (tag_word_injective k.tag t (sym k.there ∙ e)) k.is
 
--- from 15 on there is arithmetic only
-pub record Calculating (s : List ℕ) (p : ℕ) (R : Redex) : Type 0 where
-  pub operation : Arithmetic
-  pub is : Is (two_tag (arithmetic operation)) R
-  pub there : get_or s p 0 ≡ tag_word (two_tag (arithmetic operation))
-
-pub calculating_is : {s : List ℕ} {p : ℕ} (R : Redex) → Stands s p (words (expression_at R)) → 15 ≤ get_or s p 0
-    → Calculating s p R
-calculating_is {s} {p} R h l = go R (tagged R h).is (tagged R h).there
-  where
-    go : {t : Tag} (R : Redex) → Is t R → get_or s p 0 ≡ tag_word t → Calculating s p R
-    go R (is_applying f v) e = absurd (omega arith)
-    go R (is_choosing t b c) e = absurd (omega arith)
-    go R (is_making v) e = absurd (omega arith)
-    go R (is_reading k) e = absurd (omega arith)
-    go R (is_assigning k v) e = absurd (omega arith)
-    go R (is_forking x) e = absurd (omega arith)
-    go R (is_joining r) e = absurd (omega arith)
-    go R (is_calculating o m n) e = record { operation = o; is = is_calculating o m n; there = e }
-
 -- what is plugged in a formed expression is formed
 pub formed_in : (E : Context) (e : Expression) → Formed (plug E e) → Formed e
 unfolding Formed
@@ -88,18 +68,22 @@ formed_in (first_of o b ∷ E) e h = formed_in E e h.0
 formed_in (second_of o a ∷ E) e h = formed_in E e h.1
 formed_in (condition b c ∷ E) e h = formed_in E e h.0
 
--- no redex has a tag below 8
-pub low_tag : {s : List ℕ} {p : ℕ} (R : Redex) → Stands s p (words (expression_at R)) → 8 ≤ get_or s p 0
-low_tag {s} {p} R h = go (tagged R h).is (tagged R h).there
+-- a redex has a tag from 8 to 17
+pub record InTags (tag : ℕ) : Type 0 where
+  pub low : 8 ≤ tag
+  pub high : tag ≤ 17
+
+pub in_tags : {s : List ℕ} {p : ℕ} (R : Redex) → Stands s p (words (expression_at R)) → InTags (get_or s p 0)
+in_tags {s} {p} R h = go (tagged R h).is (tagged R h).there
   where
-    go : {t : Tag} {R : Redex} → Is t R → get_or s p 0 ≡ tag_word t → 8 ≤ get_or s p 0
-    go (is_applying f v) e = omega arith
-    go (is_choosing t b c) e = omega arith
-    go (is_making v) e = omega arith
-    go (is_reading k) e = omega arith
-    go (is_assigning k v) e = omega arith
-    go (is_forking x) e = omega arith
-    go (is_joining r) e = omega arith
-    go (is_calculating add m n) e = omega arith
-    go (is_calculating subtract m n) e = omega arith
-    go (is_calculating less m n) e = omega arith
+    go : {t : Tag} {R : Redex} → Is t R → get_or s p 0 ≡ tag_word t → InTags (get_or s p 0)
+    go (is_applying f v) e = record { low = omega arith; high = omega arith }
+    go (is_choosing t b c) e = record { low = omega arith; high = omega arith }
+    go (is_making v) e = record { low = omega arith; high = omega arith }
+    go (is_reading k) e = record { low = omega arith; high = omega arith }
+    go (is_assigning k v) e = record { low = omega arith; high = omega arith }
+    go (is_forking x) e = record { low = omega arith; high = omega arith }
+    go (is_joining r) e = record { low = omega arith; high = omega arith }
+    go (is_calculating add m n) e = record { low = omega arith; high = omega arith }
+    go (is_calculating subtract m n) e = record { low = omega arith; high = omega arith }
+    go (is_calculating less m n) e = record { low = omega arith; high = omega arith }

@@ -1,13 +1,13 @@
 -- if, read and arithmetic: the words up to the redex, the result's words, the words after the redex.
-use Prim.Native.Nat.{ℕ, ◌+◌, ◌-◌, ◌%◌, ◌≤◌}
+use Prim.Native.Nat.{ℕ, ◌+◌, ◌-◌, ◌%◌}
 use mathlib.Core.Path.{◌≡◌, refl, sym, ap, ap₂, ◌∙◌, subst}
 use mathlib.Core.Bool.{Bool, true, false}
 use mathlib.Core.List.{List, [], ◌∷◌, ◌++◌}
-use mathlib.Core.Option.{Option, none, some}
+use mathlib.Core.Option.{Option as Maybe, none, some}
 use native.Mathlib.Omega.{arith}
 use lib.ListN.{length, get_or, length-append}
 use Rattle.calculus.specs.Maps.{get, put}
-use Rattle.calculus.specs.Expressions.{bool, read, Arithmetic, add, subtract, less, arithmetic, Expression}
+use Rattle.calculus.specs.Expressions.{bool, read, arithmetic, Expression}
 use Rattle.calculus.specs.Tags.{constant_tag, one_tag, two_tag, if_tag, tag_word}
 use Rattle.calculus.specs.Words.{words}
 use Rattle.calculus.specs.Formed.{Formed}
@@ -24,19 +24,26 @@ use Rattle.calculus.proofs.Maps.{or_else, get_overlaid}
 use Rattle.calculus.proofs.Validity.{listed_get}
 use Rattle.image.specs.Standing.{Stands, EndsAt}
 use Rattle.image.proofs.Standing.{headed, stands_left, stands_right, stands_at}
-use Rattle.image.specs.declared.parts.Value.{Value}
-use Rattle.image.specs.declared.parts.Value.TheVariants as value
 use Rattle.image.specs.Cuts.{CellAt, Found}
 use Rattle.write.specs.Cursor.{part, Wrote}
-use Rattle.write.proofs.Cursors.{part_stands, wrote_as, wrote_size, then}
+use Rattle.write.proofs.Cursors.{part_stands, wrote_as}
 use Rattle.rules.specs.declared.site.Site.{Site}
-use Rattle.rules.specs.declared.site.Act.TheVariants.{To, No}
+use Rattle.std.specs.Prelude.{Option, Some, None, Ok, Err}
+use Rattle.rules.specs.declared.site.Moved.TheVariants.{To}
+use Rattle.rules.specs.declared.site.Reason.TheVariants.{Location}
+use Rattle.rules.specs.declared.site.Refusal.TheVariants.{Stuck}
 use Rattle.rules.specs.Work.{Work, Acted, Acts}
-use Rattle.rules.specs.Results.{WroteResult}
-use Rattle.rules.proofs.Chunks.{plugged, snapshot_stands, local_stands, redex_stands, me_valid}
+use Rattle.rules.specs.declared.local.Operation.{Operation}
+use Rattle.rules.specs.declared.local.Operation.TheVariants.{Add, Subtract, Less}
+use Rattle.rules.specs.Operations.{meant, tag_of}
+use denote.MutBor.{MutBor}
+use Rattle.std.specs.Fn.{Once}
+use Rattle.calculus.specs.Images.{image}
+use Rattle.rules.specs.Splicing.{Writes, Spliced}
+use Rattle.rules.proofs.Splicing.{spliced_among, writes_as}
+use Rattle.rules.proofs.Chunks.{plugged, snapshot_stands, local_stands, redex_stands, me_valid, size}
 use Rattle.rules.proofs.Chunks.{replaced_image}
 use Rattle.rules.proofs.Redexes.{Is, is_choosing, is_reading, is_calculating, redex_is, formed_in}
-use Rattle.rules.proofs.Redexes.{Calculating, calculating_is}
 
 -- the redex of a valid task is formed
 pub redex_formed : {s : List ℕ} {site : Site} {st : State} {me : Task} {E : Context} {R : Redex} → Work s site st me E R
@@ -71,51 +78,57 @@ branches s p c end t b d f h e₁ e₂ =
     let l = length-append (words b) (words d) in
     record { test = h₂.is; yes = part_stands c hb ic; no = part_stands end hd ie; to = omega arith }
 
-module _ (s : List ℕ) (site : Site) (c end : ℕ) (e₁ : EndsAt s (site.place + 2) c) (e₂ : EndsAt s c end) (o : List ℕ)
-    (r : ℕ) (o' : List ℕ) where
-  chosen : (a b : ℕ) → ((t : Bool) (x y : Expression) → Branches s site.place c end t x y
-      → part s a b ≡ words (choose t x y))
-      → Wrote (part s 0 site.place ++ (part s a b ++ part s end (length s))) o 0 r o' → Acts 9 s site o (To r) o'
-  chosen a b is wr =
-      record { acts = λ st me E R w g. go st me E R w (redex_is R if_tag (redex_stands s site st me E R w) g) }
-    where
-      go : (st : State) (me : Task) (E : Context) (R : Redex) → Work s site st me E R → Is if_tag R
-          → Acted (act site.revision st me E R) o (To r) o'
-      go st me E R w (is_choosing t x y) =
-          let f = redex_formed w in
-          let k = branches s site.place c end t x y (branches_formed t x y f)
-          (redex_stands s site st me E (choosing t x y) w) e₁ e₂ in
-          let im = replaced_image s site st me E (choosing t x y) w (choose t x y) end k.to in (
-            r,
-            refl,
-            wrote_as (ap (λ l. part s 0 site.place ++ (l ++ part s end (length s))) (is t x y k) ∙ sym im)
-                wr,
-          )
+-- the next image, where a closure writes the words of e for the redex
+module _ {F : Type 0} (g : Once F (MutBor (List ℕ) × (ℕ × Unit {0})) (ℕ × (MutBor (List ℕ) × Unit {0}))) (f : F)
+    (s : List ℕ) (site : Site) (end : ℕ) (o : List ℕ) (r : ℕ) (o' : List ℕ)
+    (wr : Spliced g f s 0 (length s) site.place end o 0 r o') where
+  pub replaced : (st : State) (me : Task) (E : Context) (R : Redex) → Work s site st me E R → (e : Expression)
+      → end ≡ site.place + length (words (expression_at R)) → Writes g f (words e)
+      → Wrote (image (put site.revision (become me me.local (plug E e)) st)) o 0 r o'
+  replaced st me E R w e i h =
+      let z = size s site st me E R w in
+      wrote_as (spliced_among s 0 (length s) site.place end (words e) (omega arith) (omega arith)
+      ∙ sym (replaced_image s site st me E R w e end i)) (wr.wrote (words e) h)
 
-  pub choose_yes : (v : ℕ) → v ≡ get_or s (site.place + 1) 0 → v ≡ 2
-      → Wrote (part s 0 site.place ++ (part s (site.place + 2) c ++ part s end (length s))) o 0 r o'
-      → Acts 9 s site o (To r) o'
-  choose_yes v i g = chosen (site.place + 2) c right
-    where
-      right : (t : Bool) (x y : Expression) → Branches s site.place c end t x y
-          → part s (site.place + 2) c ≡ words (choose t x y)
-      right true x y k = k.yes
-      right false x y k = let z = k.test in absurd (omega arith)
+  module _ (c : ℕ) (e₁ : EndsAt s (site.place + 2) c) (e₂ : EndsAt s c end) where
+    chosen : (a b : ℕ) → Writes g f (part s a b) → ((t : Bool) (x y : Expression) → Branches s site.place c end t x y
+        → part s a b ≡ words (choose t x y)) → Acts 9 s site o (Ok (To r)) o'
+    chosen a b h is =
+        record { acts = λ st me E R w g. go st me E R w (redex_is R if_tag (redex_stands s site st me E R w) g) }
+      where
+        go : (st : State) (me : Task) (E : Context) (R : Redex) → Work s site st me E R → Is if_tag R
+            → Acted (act site.revision st me E R) o (Ok (To r)) o'
+        go st me E R w (is_choosing t x y) =
+            let d = redex_formed w in
+            let k = branches s site.place c end t x y (branches_formed t x y d)
+            (redex_stands s site st me E (choosing t x y) w) e₁ e₂ in (
+              r,
+              refl,
+              replaced st me E (choosing t x y) w (choose t x y) k.to (writes_as (is t x y k) h),
+            )
 
-  pub choose_no : (v : ℕ) → v ≡ get_or s (site.place + 1) 0 → (v ≡ 2 → ⊥)
-      → Wrote (part s 0 site.place ++ (part s c end ++ part s end (length s))) o 0 r o'
-      → Acts 9 s site o (To r) o'
-  choose_no v i g = chosen c end right
-    where
-      right : (t : Bool) (x y : Expression) → Branches s site.place c end t x y → part s c end ≡ words (choose t x y)
-      right true x y k = absurd (g (i ∙ k.test))
-      right false x y k = k.no
+    pub choose_yes : (v : ℕ) → v ≡ get_or s (site.place + 1) 0 → v ≡ 2 → Writes g f (part s (site.place + 2) c)
+        → Acts 9 s site o (Ok (To r)) o'
+    choose_yes v i j h = chosen (site.place + 2) c h right
+      where
+        right : (t : Bool) (x y : Expression) → Branches s site.place c end t x y
+            → part s (site.place + 2) c ≡ words (choose t x y)
+        right true x y k = k.yes
+        right false x y k = let z = k.test in absurd (omega arith)
+
+    pub choose_no : (v : ℕ) → v ≡ get_or s (site.place + 1) 0 → (v ≡ 2 → ⊥) → Writes g f (part s c end)
+        → Acts 9 s site o (Ok (To r)) o'
+    choose_no v i j h = chosen c end h right
+      where
+        right : (t : Bool) (x y : Expression) → Branches s site.place c end t x y → part s c end ≡ words (choose t x y)
+        right true x y k = absurd (j (i ∙ k.test))
+        right false x y k = k.no
 
 -- a cell in the view of a valid task is valid
 pub view_valid : {me : Task} → ValidTask me → (l : ℕ) (c : Cell) → get l (view me) ≡ some c → ValidCell c
 view_valid {me} v l c h = go (get l me.local) refl (sym (get_overlaid l me.snapshot me.local) ∙ h)
   where
-    go : (o : Option Cell) → get l me.local ≡ o → or_else (get l me.local) (get l me.snapshot) ≡ some c
+    go : (o : Maybe Cell) → get l me.local ≡ o → or_else (get l me.local) (get l me.snapshot) ≡ some c
         → ValidCell c
     go none p q =
         (listed_get ValidCell 255 me.snapshot 0 l c v.snapshot
@@ -125,7 +138,7 @@ view_valid {me} v l c h = go (get l me.local) refl (sym (get_overlaid l me.snaps
         (p ∙ (ap (λ o. or_else o (get l me.snapshot)) (sym p) ∙ q))).2
 
 -- a read
-module _ (s : List ℕ) (site : Site) (l : ℕ) (li : l ≡ get_or s (site.place + 2) 0) (q : Value)
+module _ (s : List ℕ) (site : Site) (l : ℕ) (li : l ≡ get_or s (site.place + 2) 0) (q : Option ℕ)
     (found : Found s site.snapshot site.local l q) (o : List ℕ) where
   look : (st : State) (me : Task) (E : Context) (R : Redex) → Work s site st me E R → CellAt s (get l (view me)) q
   look st me E R w =
@@ -140,139 +153,98 @@ module _ (s : List ℕ) (site : Site) (l : ℕ) (li : l ≡ get_or s (site.place
       let h₃ = headed h₂.more in
       li ∙ ap (λ i. get_or s i 0) (omega arith) ∙ h₃.is
 
-  pub read_nothing : q ≡ value.No → Acts 11 s site o (No 5) o
+  pub read_nothing : q ≡ None → Acts 11 s site o (Err (Stuck Location)) o
   read_nothing e =
       record { acts = λ st me E R w g. go st me E R w (redex_is R (one_tag read) (redex_stands s site st me E R w) g) }
     where
-      none_there : (m : Option Cell) (f : Cell → Outcome) → CellAt s m value.No
-          → Acted (with_cell by_location m f) o (No 5) o
+      none_there : (m : Maybe Cell) (f : Cell → Outcome) → CellAt s m None
+          → Acted (with_cell by_location m f) o (Err (Stuck Location)) o
       none_there none f t = (refl, refl)
       none_there (some c) f t = absurd t
 
       go : (st : State) (me : Task) (E : Context) (R : Redex) → Work s site st me E R → Is (one_tag read) R
-          → Acted (act site.revision st me E R) o (No 5) o
+          → Acted (act site.revision st me E R) o (Err (Stuck Location)) o
       go st me E R w (is_reading k) =
           let il = location st me E k w in
           none_there (get k (view me)) _
-          (subst (λ k. CellAt s (get k (view me)) value.No) il
+          (subst (λ k. CellAt s (get k (view me)) None) il
           (subst (CellAt s (get l (view me))) e (look st me E (reading k) w)))
 
-  pub read_value : (v : ℕ) → q ≡ value.From v → (e r : ℕ) (o' : List ℕ) → EndsAt s v e
-      → Wrote (part s 0 site.place ++ (part s v e ++ part s (site.place + 3) (length s))) o 0 r o'
-      → Acts 11 s site o (To r) o'
+  pub read_value : {F : Type 0} (g : Once F (MutBor (List ℕ) × (ℕ × Unit {0})) (ℕ × (MutBor (List ℕ) × Unit {0}))) (f : F)
+      (v : ℕ) → q ≡ Some v → (e r : ℕ) (o' : List ℕ) → EndsAt s v e
+      → Spliced g f s 0 (length s) site.place (site.place + 3) o 0 r o' → Writes g f (part s v e)
+      → Acts 11 s site o (Ok (To r)) o'
   unfolding words
-  read_value v qe e r o' ends wr =
+  read_value g f v qe e r o' ends wr h =
       record { acts = λ st me E R w g. go st me E R w (redex_is R (one_tag read) (redex_stands s site st me E R w) g) }
     where
-      there : (st : State) (me : Task) (E : Context) (k : ℕ) → Work s site st me E (reading k) → (m : Option Cell)
-          → get k (view me) ≡ m → CellAt s m (value.From v)
+      there : (st : State) (me : Task) (E : Context) (k : ℕ) → Work s site st me E (reading k) → (m : Maybe Cell)
+          → get k (view me) ≡ m → CellAt s m (Some v)
           → Acted (with_cell by_location m
-          (λ c. next (put site.revision (become me me.local (plug E (content c))) st))) o (To r) o'
+          (λ c. next (put site.revision (become me me.local (plug E (content c))) st))) o (Ok (To r)) o'
       there st me E k w none p t = absurd t
       there st me E k w (some (plain x)) p t =
-          let f = view_valid (me_valid s site st me E (reading k) w) k (plain x) p in
-          let ie = ends.ends x f.0.0 t in
-          let im = replaced_image s site st me E (reading k) w x (site.place + 3) (omega arith) in (
+          let d = view_valid (me_valid s site st me E (reading k) w) k (plain x) p in
+          let ie = ends.ends x d.0.0 t in (
             r,
             refl,
-            wrote_as (ap (λ l. part s 0 site.place ++ (l ++ part s (site.place + 3) (length s)))
-                (part_stands e t ie) ∙ sym im) wr,
+            replaced g f s site (site.place + 3) o r o' wr st me E (reading k) w x (omega arith)
+                (writes_as (part_stands e t ie) h),
           )
 
       go : (st : State) (me : Task) (E : Context) (R : Redex) → Work s site st me E R → Is (one_tag read) R
-          → Acted (act site.revision st me E R) o (To r) o'
+          → Acted (act site.revision st me E R) o (Ok (To r)) o'
       go st me E R w (is_reading k) =
           let il = location st me E k w in
           there st me E k w (get k (view me)) refl
-          (subst (λ k. CellAt s (get k (view me)) (value.From v)) il
+          (subst (λ k. CellAt s (get k (view me)) (Some v)) il
           (subst (CellAt s (get l (view me))) qe (look st me E (reading k) w)))
 
 -- arithmetic
-pub result_less_yes : (m n : ℕ) (o : List ℕ) (to r : ℕ) (o' : List ℕ) (tag : ℕ) (b : Bool)
-    → b ≡ lt_z (signed m) (signed n) → b ≡ true → tag ≡ 17
-    → Wrote (2 ∷ []) o to r o' → WroteResult tag m n o to r o'
-unfolding words
-result_less_yes m n o to r o' tag b i e t w = record { high = (wrote_size w).1; size = (wrote_size w).0; wrote = go }
-  where
-    go : (k : Arithmetic) → tag_word (two_tag (arithmetic k)) ≡ tag → Wrote (words (calculated k m n)) o to r o'
-    go add z = absurd (omega arith)
-    go subtract z = absurd (omega arith)
-    go less z = wrote_as (ap (λ b. tag_word (constant_tag (bool b)) ∷ []) (sym (sym i ∙ e))) w
+module _ (operation : Operation) (m n : ℕ) (o : List ℕ) (to r : ℕ) (o' : List ℕ) where
+  pub result_add : operation ≡ Add → (v : ℕ) → v ≡ (m + n) % 65536 → Wrote (3 ∷ v ∷ []) o to r o'
+      → Wrote (words (calculated (meant operation) m n)) o to r o'
+  unfolding words
+  result_add e v i w = rw e (wrote_as (ap (λ v. 3 ∷ v ∷ []) i) w)
 
-pub result_less_no : (m n : ℕ) (o : List ℕ) (to r : ℕ) (o' : List ℕ) (tag : ℕ) (b : Bool)
-    → b ≡ lt_z (signed m) (signed n) → b ≡ false → tag ≡ 17
-    → Wrote (1 ∷ []) o to r o' → WroteResult tag m n o to r o'
-unfolding words
-result_less_no m n o to r o' tag b i e t w = record { high = (wrote_size w).1; size = (wrote_size w).0; wrote = go }
-  where
-    go : (k : Arithmetic) → tag_word (two_tag (arithmetic k)) ≡ tag → Wrote (words (calculated k m n)) o to r o'
-    go add z = absurd (omega arith)
-    go subtract z = absurd (omega arith)
-    go less z = wrote_as (ap (λ b. tag_word (constant_tag (bool b)) ∷ []) (sym (sym i ∙ e))) w
+  pub result_subtract : operation ≡ Subtract → (v : ℕ) → v ≡ (m + (65536 - n)) % 65536 → Wrote (3 ∷ v ∷ []) o to r o'
+      → Wrote (words (calculated (meant operation) m n)) o to r o'
+  unfolding words
+  result_subtract e v i w = rw e (wrote_as (ap (λ v. 3 ∷ v ∷ []) i) w)
 
-pub result_add : (m n : ℕ) (o : List ℕ) (to x r : ℕ) (o₁ o₂ : List ℕ) (tag v : ℕ) → v ≡ (m + n) % 65536 → tag ≡ 15
-    → Wrote (3 ∷ []) o to x o₁ → Wrote (v ∷ []) o₁ x r o₂ → WroteResult tag m n o to r o₂
-unfolding words
-result_add m n o to x r o₁ o₂ tag v i t w₁ w₂ =
-    let w = then w₁ w₂ in record { high = (wrote_size w).1; size = (wrote_size w).0; wrote = go w }
-  where
-    go : Wrote (3 ∷ v ∷ []) o to r o₂ → (k : Arithmetic) → tag_word (two_tag (arithmetic k)) ≡ tag
-        → Wrote (words (calculated k m n)) o to r o₂
-    go w add z = wrote_as (ap (λ v. 3 ∷ v ∷ []) i) w
-    go w subtract z = absurd (omega arith)
-    go w less z = absurd (omega arith)
+  module _ (e : operation ≡ Less) (b : Bool) (i : b ≡ lt_z (signed m) (signed n)) where
+    pub result_yes : b ≡ true → Wrote (2 ∷ []) o to r o' → Wrote (words (calculated (meant operation) m n)) o to r o'
+    unfolding words
+    result_yes t w = rw e (wrote_as (ap (λ b. tag_word (constant_tag (bool b)) ∷ []) (sym t ∙ i)) w)
 
-pub result_subtract : (m n : ℕ) (o : List ℕ) (to x r : ℕ) (o₁ o₂ : List ℕ) (tag v : ℕ) → v ≡ (m + (65536 - n)) % 65536
-    → (tag ≡ 17 → ⊥) → (tag ≡ 15 → ⊥)
-    → Wrote (3 ∷ []) o to x o₁ → Wrote (v ∷ []) o₁ x r o₂ → WroteResult tag m n o to r o₂
-unfolding words
-result_subtract m n o to x r o₁ o₂ tag v i t u w₁ w₂ =
-    let w = then w₁ w₂ in record { high = (wrote_size w).1; size = (wrote_size w).0; wrote = go w }
-  where
-    go : Wrote (3 ∷ v ∷ []) o to r o₂ → (k : Arithmetic) → tag_word (two_tag (arithmetic k)) ≡ tag
-        → Wrote (words (calculated k m n)) o to r o₂
-    go w add z = absurd (u (sym z))
-    go w subtract z = wrote_as (ap (λ v. 3 ∷ v ∷ []) i) w
-    go w less z = absurd (t (sym z))
+    pub result_no : b ≡ false → Wrote (1 ∷ []) o to r o' → Wrote (words (calculated (meant operation) m n)) o to r o'
+    unfolding words
+    result_no t w = rw e (wrote_as (ap (λ b. tag_word (constant_tag (bool b)) ∷ []) (sym t ∙ i)) w)
 
-pub calculate_done : (s : List ℕ) (site : Site) (tag m n : ℕ) → 15 ≤ tag → m ≡ get_or s (site.place + 2) 0
-    → n ≡ get_or s (site.place + 4) 0
-    → (o o₁ o₂ o₃ : List ℕ) (x y r : ℕ) → Wrote (part s 0 site.place) o 0 x o₁ → WroteResult tag m n o₁ x y o₂
-    → Wrote (part s (site.place + 5) (length s)) o₂ y r o₃ → Acts tag s site o (To r) o₃
+pub calculate_done : {F : Type 0}
+    (g : Once F (MutBor (List ℕ) × (ℕ × Unit {0})) (ℕ × (MutBor (List ℕ) × Unit {0}))) (f : F) (s : List ℕ) (site : Site)
+    (operation : Operation) (m n : ℕ) → m ≡ get_or s (site.place + 2) 0 → n ≡ get_or s (site.place + 4) 0
+    → (o : List ℕ) (r : ℕ) (o' : List ℕ) → Spliced g f s 0 (length s) site.place (site.place + 5) o 0 r o'
+    → Writes g f (words (calculated (meant operation) m n)) → Acts (tag_of operation) s site o (Ok (To r)) o'
 unfolding words
-calculate_done s site tag m n low mi ni o o₁ o₂ o₃ x y r w₁ w₂ w₃ =
+calculate_done g f s site operation m n mi ni o r o' wr h =
     record {
-      acts = λ st me E R w g. go st me E R w g
-          (calculating_is R (redex_stands s site st me E R w) (subst (λ t. 15 ≤ t) (sym g) low));
+      acts = λ st me E R w g. go st me E R w
+          (redex_is R (two_tag (arithmetic (meant operation))) (redex_stands s site st me E R w) g);
     }
   where
-    made : (st : State) (me : Task) (E : Context) (R : Redex) → Work s site st me E R → (k : Arithmetic)
-        → tag_word (two_tag (arithmetic k)) ≡ tag → Is (two_tag (arithmetic k)) R
-        → Acted (act site.revision st me E R) o (To r) o₃
-    made st me E R w k z (is_calculating i a b) =
+    go : (st : State) (me : Task) (E : Context) (R : Redex) → Work s site st me E R
+        → Is (two_tag (arithmetic (meant operation))) R → Acted (act site.revision st me E R) o (Ok (To r)) o'
+    go st me E R w (is_calculating k a b) =
         let h₁ = headed (redex_stands s site st me E (calculating k a b) w) in
         let h₂ = headed h₁.more in
         let h₃ = headed h₂.more in
         let h₄ = headed h₃.more in
         let h₅ = headed h₄.more in
         let ia : m ≡ a = mi ∙ ap (λ i. get_or s i 0) (omega arith) ∙ h₃.is in
-        let ib : n ≡ b = ni ∙ ap (λ i. get_or s i 0) (omega arith) ∙ h₅.is in
-        let im = replaced_image s site st me E (calculating k a b) w (calculated k a b) (site.place + 5) (omega arith)
-        in
-        let v = then w₁ (then (w₂.wrote k z) w₃) in (
+        let ib : n ≡ b = ni ∙ ap (λ i. get_or s i 0) (omega arith) ∙ h₅.is in (
           r,
           refl,
-          wrote_as (ap₂
-              (λ a b. part s 0 site.place ++ (words (calculated k a b) ++ part s (site.place + 5) (length s))) ia ib ∙ sym
-              im) v,
+          replaced g f s site (site.place + 5) o r o' wr st me E (calculating k a b) w (calculated k a b) (omega arith)
+              (writes_as (ap₂ (λ a b. words (calculated k a b)) ia ib) h),
         )
-
-    go : (st : State) (me : Task) (E : Context) (R : Redex) → Work s site st me E R → get_or s site.place 0 ≡ tag
-        → Calculating s site.place R → Acted (act site.revision st me E R) o (To r) o₃
-    go st me E R w g k = made st me E R w k.operation (sym k.there ∙ g) k.is
-
--- three writes in a row
-pub then3 : {a b d o : List ℕ} {i j k r : ℕ} {o₁ o₂ o₃ : List ℕ} → Wrote a o i j o₁ → Wrote b o₁ j k o₂
-    → Wrote d o₂ k r o₃
-    → Wrote (a ++ (b ++ d)) o i r o₃
-then3 u v w = then u (then v w)

@@ -1,10 +1,11 @@
 -- What one step on a valid image promises: what the calculus does, whatever state the image is of.
-use Rattle.std.specs.Prelude.{ℕ, ◌+◌, ◌≡◌, true, List, length}
+use Rattle.std.specs.Prelude.{ℕ, ◌+◌, ◌≡◌, true, List, length, Result}
 use Rattle.calculus.specs.States.{State}
 use Rattle.calculus.specs.Images.{entries, task_words, image, Valid}
 use Rattle.calculus.specs.Steps.{step}
 use Rattle.image.specs.Cuts.{before, hits}
-use Rattle.rules.specs.declared.site.Act.{Act}
+use Rattle.rules.specs.declared.site.Moved.{Moved}
+use Rattle.rules.specs.declared.site.Refusal.{Refusal}
 use Rattle.rules.specs.Work.{Acted}
 
 -- r is live in the state st, and `at` is where its section starts in the image
@@ -19,8 +20,8 @@ pub record LiveAt (s : List ℕ) (r at : ℕ) : Type 0 where
   pub is : s ≡ image state
   pub section : Section state r at
 
-pub record StepsAt (s : List ℕ) (r at : ℕ) (o : List ℕ) (a : Act) (o' : List ℕ) : Type 0 where
+pub record StepsAt (s : List ℕ) (r at : ℕ) (o : List ℕ) (a : Result Moved Refusal) (o' : List ℕ) : Type 0 where
   pub acts : (st : State) → Valid st → s ≡ image st → Section st r at → Acted (step r st) o a o'
 
-pub record Steps (s : List ℕ) (r : ℕ) (o : List ℕ) (a : Act) (o' : List ℕ) : Type 0 where
+pub record Steps (s : List ℕ) (r : ℕ) (o : List ℕ) (a : Result Moved Refusal) (o' : List ℕ) : Type 0 where
   pub acts : (st : State) → Valid st → s ≡ image st → Acted (step r st) o a o'

@@ -1,6 +1,7 @@
 -- What the contracts of this crate cite, beside the definitions of the crates below.
 pub mod Work
-pub mod Results
+pub mod Splicing
+pub mod Operations
 pub mod Putting
 pub mod Applying
 pub mod Sections

@@ -1,5 +1,5 @@
 -- A revision at work in a valid image, and what a rule on words promises of it.
-use Rattle.std.specs.Prelude.{ℕ, ◌+◌, ◌≡◌, List, ◌∷◌, ◌++◌, length, get_or}
+use Rattle.std.specs.Prelude.{ℕ, ◌+◌, ◌≡◌, List, ◌∷◌, ◌++◌, length, get_or, Result, Ok, Err}
 use Rattle.calculus.specs.States.{Task, State}
 use Rattle.calculus.specs.Images.{entries, counted, cell_words, task_words, image, Valid}
 use Rattle.calculus.specs.Redexes.{Redex}
@@ -9,8 +9,11 @@ use Rattle.calculus.specs.Steps.{not_live, no_number, act}
 use Rattle.place.specs.Search.{prefix}
 use Rattle.write.specs.Cursor.{Wrote}
 use Rattle.rules.specs.declared.site.Site.{Site}
-use Rattle.rules.specs.declared.site.Act.{Act}
-use Rattle.rules.specs.declared.site.Act.TheVariants.{To, No}
+use Rattle.rules.specs.declared.site.Moved.{Moved}
+use Rattle.rules.specs.declared.site.Moved.TheVariants.{To, Emptied}
+use Rattle.rules.specs.declared.site.Reason.TheVariants.{Shape, Location}
+use Rattle.rules.specs.declared.site.Refusal.{Refusal}
+use Rattle.rules.specs.declared.site.Refusal.TheVariants.{Finished, Waits, Stuck, NotLive, NoNumber}
 
 -- `me` is the revision of the site in the valid state st, whose image is s, and R is its redex in the context E
 pub record Work (s : List ℕ) (site : Site) (st : State) (me : Task) (E : Context) (R : Redex) : Type 0 where
@@ -35,17 +38,17 @@ pub record Working (tag : ℕ) (s : List ℕ) (site : Site) : Type 0 where
   pub tagged : get_or s site.place 0 ≡ tag
 
 -- the answer and the buffer after it, by what the rule comes to
-abbrev pub Acted : Outcome → List ℕ → Act → List ℕ → Type 0
-Acted (next t) o a o' = (to : ℕ) × (a ≡ To to) × Wrote (image t) o 0 to o'
-Acted emptied o a o' = (a ≡ No 1) × (o' ≡ o)
-Acted finished o a o' = (a ≡ No 2) × (o' ≡ o)
-Acted waits o a o' = (a ≡ No 3) × (o' ≡ o)
-Acted (stuck by_shape) o a o' = (a ≡ No 4) × (o' ≡ o)
-Acted (stuck by_location) o a o' = (a ≡ No 5) × (o' ≡ o)
-Acted not_live o a o' = (a ≡ No 6) × (o' ≡ o)
-Acted no_number o a o' = (a ≡ No 7) × (o' ≡ o)
+abbrev pub Acted : Outcome → List ℕ → Result Moved Refusal → List ℕ → Type 0
+Acted (next t) o a o' = (to : ℕ) × (a ≡ Ok (To to)) × Wrote (image t) o 0 to o'
+Acted emptied o a o' = (a ≡ Ok Emptied) × (o' ≡ o)
+Acted finished o a o' = (a ≡ Err Finished) × (o' ≡ o)
+Acted waits o a o' = (a ≡ Err Waits) × (o' ≡ o)
+Acted (stuck by_shape) o a o' = (a ≡ Err (Stuck Shape)) × (o' ≡ o)
+Acted (stuck by_location) o a o' = (a ≡ Err (Stuck Location)) × (o' ≡ o)
+Acted not_live o a o' = (a ≡ Err NotLive) × (o' ≡ o)
+Acted no_number o a o' = (a ≡ Err NoNumber) × (o' ≡ o)
 
 -- whatever state the image is of, the rule does to it what the calculus does
-pub record Acts (tag : ℕ) (s : List ℕ) (site : Site) (o : List ℕ) (a : Act) (o' : List ℕ) : Type 0 where
+pub record Acts (tag : ℕ) (s : List ℕ) (site : Site) (o : List ℕ) (a : Result Moved Refusal) (o' : List ℕ) : Type 0 where
   pub acts : (st : State) (me : Task) (E : Context) (R : Redex) → Work s site st me E R → get_or s site.place 0 ≡ tag
       → Acted (act site.revision st me E R) o a o'

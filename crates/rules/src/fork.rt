@@ -1,16 +1,19 @@
 // fork: the child's section stands before or after the parent's, by its number, and names the child for the fork.
-ghost use Rattle.std.specs.Prelude.{◌+◌, ◌≤◌, length};
 ghost use Rattle.rules.specs.Work.{Working, Acts};
-ghost use Rattle.rules.specs.Forks.{Forkable, WroteChild, WroteWith, WroteForked};
+ghost use Rattle.rules.specs.Forks.{Forkable, WroteChild, WroteForked};
 
 use crate::sections::{find_section, overlay_stores};
-use crate::site::{Act, Site};
-use image::fresh::{Number, new_revision};
-use image::nodes::{past, word_at};
-use write::cursor::{copy_part, put_word};
+use crate::site::{Moved, Refusal, Site};
+use crate::splice::splice;
+use image::fresh::new_revision;
+use image::nodes::past;
+use words::reading::word_at;
+use words::tags::Tag;
+use write::cursor::{copy_part, put_word, put_words};
 
-// A section to be made: its number, where it goes, and from where to where its expression stands.
-#[derive(Clone, Copy)]
+// A section to be made: its number, where it goes, and from where to where its expression stands (two numbers, since a
+// struct with a Range is not Copy).
+#[derive(Clone, Copy, PartialEq, Eq, Debug)]
 pub struct Child {
     pub revision: u16,
     pub at: usize,
@@ -20,38 +23,13 @@ pub struct Child {
 
 // Writes the child's section: the site's view as its snapshot, no local store, its expression.
 fn write_child(s: &[u16], site: Site, child: Child, out: &mut [u16], to: usize) -> usize
-    requires { (Forkable s.now site child) × (to ≤ length out.old + 1) }
+    requires { Forkable s.now site child }
     ensures { WroteChild s.now site child out.old to result out.new }
 {
-    let w = put_word(out, to, child.revision);
-    let x = overlay_stores(s, site.snapshot, site.local, out, w);
-    let y = put_word(out, x, 0);
-    copy_part(s, child.from, child.end, out, y)
-}
-
-// Writes the words from a to b, with the child's section put in, if it goes among them.
-fn copy_with(
-    s: &[u16],
-    a: usize,
-    b: usize,
-    site: Site,
-    child: Child,
-    out: &mut [u16],
-    to: usize,
-) -> usize
-    requires { (Forkable s.now site child) × (b ≤ length s.now) × (to ≤ length out.old + 1) }
-    ensures { WroteWith s.now a b site child out.old to result out.new }
-{
-    let at = child.at;
-    if at < a {
-        return copy_part(s, a, b, out, to);
-    }
-    if b < at {
-        return copy_part(s, a, b, out, to);
-    }
-    let x = copy_part(s, a, at, out, to);
-    let y = write_child(s, site, child, out, x);
-    copy_part(s, at, b, out, y)
+    let to = put_word(out, to, child.revision);
+    let to = overlay_stores(s, site.snapshot, site.local, out, to);
+    let to = put_word(out, to, 0);
+    copy_part(s, child.from..child.end, out, to)
 }
 
 // The next image: one section more, and the child's name for the fork.
@@ -59,30 +37,32 @@ fn write_forked(s: &[u16], site: Site, child: Child, out: &mut [u16]) -> usize
     requires { Forkable s.now site child }
     ensures { WroteForked s.now site child out.old result out.new }
 {
-    let len = s.len();
-    let v = put_word(out, 0, word_at(s, 0) + 1);
-    let w = copy_with(s, 1, site.place, site, child, out, v);
-    let x = put_word(out, w, 6);
-    let y = put_word(out, x, child.revision);
-    copy_with(s, child.end, len, site, child, out, y)
+    let at = child.at;
+    let to = put_word(out, 0, word_at(s, 0) + 1);
+    let to = splice(s, 1..site.place, at..at, out, to, |out, to| {
+        write_child(s, site, child, out, to)
+    });
+    let to = put_words(out, to, &[Tag::Revision as u16, child.revision]);
+    splice(s, child.end..s.len(), at..at, out, to, |out, to| {
+        write_child(s, site, child, out, to)
+    })
 }
 
-pub fn fork(s: &[u16], site: Site, out: &mut [u16]) -> Act
+pub fn fork(s: &[u16], site: Site, out: &mut [u16]) -> Result<Moved, Refusal>
     requires { Working 13 s.now site }
     ensures { Acts 13 s.now site out.old result out.new }
 {
-    let Number::Is(q) = new_revision(s) else {
-        return Act::No(7);
+    let Some(revision) = new_revision(s) else {
+        return Err(Refusal::NoNumber);
     };
     let from = site.place + 1;
-    let end = past(s, from);
-    let k = find_section(s, q);
+    let (Ok(at) | Err(at)) = find_section(s, revision);
     let child = Child {
-        revision: q,
-        at: k.at,
+        revision,
+        at,
         from,
-        end,
+        end: past(s, from),
     };
-    let r = write_forked(s, site, child, out);
-    Act::To(r)
+    let to = write_forked(s, site, child, out);
+    Ok(Moved::To(to))
 }

@@ -8,4 +8,5 @@ pub mod join;
 pub mod local;
 pub mod sections;
 pub mod site;
+pub mod splice;
 pub mod stores;

@@ -1,7 +1,7 @@
-// Where a revision works, and what a rule answers.
+// Where a revision works, and what comes of a step there.
 
 // Of revision `revision`: where its snapshot's count, its local store's count and its expression start, and its redex.
-#[derive(Clone, Copy)]
+#[derive(Clone, Copy, PartialEq, Eq, Debug)]
 pub struct Site {
     pub revision: u16,
     pub snapshot: usize,
@@ -10,9 +10,26 @@ pub struct Site {
     pub place: usize,
 }
 
-// The cursor after the next image (past the buffer's end where there is no room), or the number of the answer.
-#[derive(Drop)]
-pub enum Act {
+// A step taken: the cursor after the next image (past the buffer's end where there is no room), or the empty state.
+#[derive(Clone, Copy, PartialEq, Eq, Debug)]
+pub enum Moved {
     To(usize),
-    No(u16),
+    Emptied,
+}
+
+// Why an expression is stuck: no rule fits its shape, or the location is not in view.
+#[derive(Clone, Copy, PartialEq, Eq, Debug)]
+pub enum Reason {
+    Shape,
+    Location,
+}
+
+// Why there is no step.
+#[derive(Clone, Copy, PartialEq, Eq, Debug)]
+pub enum Refusal {
+    Finished,
+    Waits,
+    Stuck(Reason),
+    NotLive,
+    NoNumber,
 }

@@ -1,67 +1,61 @@
 // The rules that put one entry into the local store: assign and ref.
 ghost use Rattle.rules.specs.Work.{Working, Acts};
-ghost use Rattle.rules.specs.Putting.{PutPlace, WroteStored, MakesAs};
+ghost use Rattle.rules.specs.Putting.{PutPlace, WroteStored};
 
-use crate::site::{Act, Site};
-use image::fresh::{Number, new_location};
-use image::nodes::{past, word_at};
-use image::parts::{Value, look_up};
-use write::cursor::{copy_part, put_word};
+use crate::site::{Moved, Reason, Refusal, Site};
+use image::fresh::new_location;
+use image::nodes::past;
+use image::parts::look_up;
+use std::ops::Range;
+use words::reading::word_at;
+use words::tags::Tag;
+use write::cursor::{copy_part, put_words};
 use write::entry::put_entry;
 
-// The words of s up to the redex, where the local store has the words from a to b as the cell of location l.
-fn stored(s: &[u16], site: Site, l: u16, a: usize, b: usize, out: &mut [u16]) -> usize
-    requires { PutPlace s.now site b }
-    ensures { WroteStored s.now site l a b out.old result out.new }
+// The image with the words of s in the range `value` as the cell of location l in the local store, and the words
+// `new` for the redex, which ends with the value.
+fn store(s: &[u16], site: Site, l: u16, value: Range<usize>, new: &[u16], out: &mut [u16]) -> usize
+    requires { PutPlace s.now site value.end }
+    ensures { WroteStored s.now site l value.start value.end new.now out.old result out.new }
 {
-    let local = site.local;
-    let expression = site.expression;
-    let x = copy_part(s, 0, local, out, 0);
-    let y = put_entry(s, local, expression, l, a, b, out, x);
-    copy_part(s, expression, site.place, out, y)
+    let end = value.end;
+    let to = copy_part(s, 0..site.local, out, 0);
+    let to = put_entry(s, site.local..site.expression, l, value, out, to);
+    let to = copy_part(s, site.expression..site.place, out, to);
+    let to = put_words(out, to, new);
+    copy_part(s, end..s.len(), out, to)
 }
 
 // assign: the local store takes the value; result unit.
-pub fn assign(s: &[u16], site: Site, out: &mut [u16]) -> Act
+pub fn assign(s: &[u16], site: Site, out: &mut [u16]) -> Result<Moved, Refusal>
     requires { Working 12 s.now site }
     ensures { Acts 12 s.now site out.old result out.new }
 {
-    let p = site.place;
-    let n = s.len();
-    let l = word_at(s, p + 2);
-    let Value::From(_) = look_up(s, site.snapshot, site.local, l) else {
-        return Act::No(5);
+    let l = word_at(s, site.place + 2);
+    let Some(_) = look_up(s, site.snapshot, site.local, l) else {
+        return Err(Refusal::Stuck(Reason::Location));
     };
-    let v = p + 3;
-    let e = past(s, v);
-    let x = stored(s, site, l, v, e, out);
-    let y = put_word(out, x, 0);
-    let r = copy_part(s, e, n, out, y);
-    Act::To(r)
+    let from = site.place + 3;
+    let to = store(s, site, l, from..past(s, from), &[Tag::Unit as u16], out);
+    Ok(Moved::To(to))
 }
 
-// ref, where the new location is l: it joins the local store with the value; result the location.
-fn make_as(s: &[u16], site: Site, l: u16, out: &mut [u16]) -> Act
-    requires { Working 10 s.now site }
-    ensures { MakesAs s.now site l out.old result out.new }
-{
-    let n = s.len();
-    let v = site.place + 1;
-    let e = past(s, v);
-    let x = stored(s, site, l, v, e, out);
-    let y = put_word(out, x, 5);
-    let z = put_word(out, y, l);
-    let r = copy_part(s, e, n, out, z);
-    Act::To(r)
-}
-
-// ref: a cell of the value at a new location.
-pub fn make(s: &[u16], site: Site, out: &mut [u16]) -> Act
+// ref: a cell of the value at a new location; result the location.
+pub fn make(s: &[u16], site: Site, out: &mut [u16]) -> Result<Moved, Refusal>
     requires { Working 10 s.now site }
     ensures { Acts 10 s.now site out.old result out.new }
 {
-    let Number::Is(l) = new_location(s) else {
-        return Act::No(7);
+    let Some(l) = new_location(s) else {
+        return Err(Refusal::NoNumber);
     };
-    make_as(s, site, l, out)
+    let from = site.place + 1;
+    let to = store(
+        s,
+        site,
+        l,
+        from..past(s, from),
+        &[Tag::Location as u16, l],
+        out,
+    );
+    Ok(Moved::To(to))
 }

@@ -2,8 +2,8 @@
 use Rattle.rules.proofs.Advancing.{image_long, steps_gone}
 use Rattle.rules.proofs.advance.advance.Goals as goal
 
-pub find_section-k-requires : goal.find_section-k-requires
-find_section-k-requires c = search image_long
+pub find_section-requires : goal.find_section-requires
+find_section-requires c = search image_long
 
-pub returns : goal.returns
-returns c = search steps_gone
+pub returns-in_default : goal.returns-in_default
+returns-in_default c = search steps_gone

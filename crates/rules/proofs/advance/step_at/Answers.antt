@@ -6,8 +6,8 @@ use Rattle.rules.proofs.advance.step_at.Goals as goal
 pub overflow_add-snapshot : goal.overflow_add-snapshot
 overflow_add-snapshot c = let b : AtBound _ _ = at_bound c.requires in omega arith
 
-pub parts_of-c-requires : goal.parts_of-c-requires
-parts_of-c-requires c = let b : AtBound _ _ = at_bound c.requires in search rules
+pub parts_of-parts-requires : goal.parts_of-parts-requires
+parts_of-parts-requires c = let b : AtBound _ _ = at_bound c.requires in search rules
 
 pub work_off-requires : goal.work_off-requires
 work_off-requires c = search redex_working

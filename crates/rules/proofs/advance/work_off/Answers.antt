@@ -1,12 +1,12 @@
--- `advance::work_off` meets its contract: what no rule before takes is arithmetic.
-use Rattle.rules.proofs.Advancing.{arithmetic_left}
+-- `advance::work_off` meets its contract: a redex has a tag, and none but those of the rules.
+use Rattle.rules.proofs.Advancing.{work_in_tags, tag_there, no_other}
 use Rattle.rules.proofs.advance.work_off.Goals as goal
 
-pub calculate-requires : goal.calculate-requires
-calculate-requires c =
-    arithmetic_left _ c.word_at-tag.ensures
-    c.requires
-    c.if-tag-eq8.false
-    c.if-tag-eq9.false
-    c.if-tag-eq10.false c.if-tag-eq11.false
-    c.if-tag-eq12.false c.if-tag-eq13.false c.if-tag-eq14.false
+pub unwrap-requires : goal.unwrap-requires
+unwrap-requires c = tag_there _ _ c.of.ensures (work_in_tags _ c.word_at.ensures c.requires)
+
+pub unreachable-requires : goal.unreachable-requires
+unreachable-requires c =
+    let h = c.in_default in
+    no_other _ _ _ c.of.ensures c.unwrap.ensures (work_in_tags _ c.word_at.ensures c.requires)
+    h.not-Apply h.not-If h.not-Ref h.not-Read h.not-Assign h.not-Fork h.not-Join h.not-Add h.not-Subtract h.not-Less

@@ -5,8 +5,8 @@ use Rattle.rules.proofs.stores.assign.Goals as goal
 pub returns-in_default : goal.returns-in_default
 returns-in_default c = search assign_nothing
 
-pub stored-x-requires : goal.stored-x-requires
-stored-x-requires c = search put_place
+pub store-to-requires : goal.store-to-requires
+store-to-requires c = search put_place
 
 pub returns : goal.returns
 returns c = search assign_done
