@@ -1,33 +1,41 @@
 -- What a step came to, from the act and the work buffer that it left, and the answer that is delivered for it.
 use Prim.Native.Nat.{ℕ, suc, ◌-◌, ◌<◌, ◌≤◌}
 use mathlib.Core.List.{List, [], ◌∷◌, ◌++◌}
-use mathlib.Core.Option.{none, some}
-use mathlib.Core.Path.{subst as along, ◌≡◌, refl, sym, ap, ◌∙◌}
+use mathlib.Core.Option.{none}
+use mathlib.Core.Path.{subst as along, ◌≡◌, refl, ap, ◌∙◌}
 use native.Mathlib.Omega.{arith}
-use lib.Dec.{eqb}
 use lib.ListN.{length, take, replicate}
-use borrow.Author.Tests.{ne_eqb}
-use Rattle.calculus.specs.Numbers.{choose}
 use Rattle.calculus.specs.States.{State}
 use Rattle.calculus.specs.Images.{image}
 use Rattle.calculus.specs.Steps.{by_shape, by_location, Outcome, next, emptied, finished, waits, stuck}
 use Rattle.calculus.specs.Steps.{not_live, no_number}
 use Rattle.calculus.specs.Answers.{answer, refused, within, image_room, number_of, leads_to, imaged, outcome_answer}
-use Rattle.rules.specs.declared.site.Act.{Act}
-use Rattle.rules.specs.declared.site.Act.TheVariants.{To, No}
+use Rattle.std.specs.Prelude.{Result, Ok, Err, IsErrAnd}
+use Rattle.rules.specs.declared.site.Moved.{Moved}
+use Rattle.rules.specs.declared.site.Moved.TheVariants.{To, Emptied}
+use Rattle.rules.specs.declared.site.Reason.TheVariants.{Shape, Location}
+use Rattle.rules.specs.declared.site.Refusal.{Refusal}
+use Rattle.rules.specs.declared.site.Refusal.TheVariants.{Finished, Waits, Stuck, NotLive, NoNumber}
 use Rattle.rules.specs.Work.{Acted}
 use Rattle.write.specs.Cursor.{Wrote}
 use Rattle.write.proofs.Cursors.{wrote_size}
-use Rattle.engine.specs.declared.answers.Stepped.{Stepped}
-use Rattle.engine.specs.declared.answers.Stepped.TheVariants.{Moved, Emptied, NoRoom}
-use Rattle.engine.specs.Answers.{stepped_length}
-use Rattle.engine.specs.Buffers.{Cleared, Filled}
-use Rattle.engine.specs.Parts.{Told, Delivers, Refuses}
+use Rattle.engine.specs.declared.answers.Stepped.TheVariants as stepped
+use Rattle.engine.specs.declared.answers.StepError.TheVariants.{NoRoom}
+use Rattle.engine.specs.Answers.{step_error, stepped_number}
+use Rattle.words.specs.Buffers.{Cleared}
+use Rattle.engine.specs.Buffers.{Filled}
+use Rattle.engine.specs.Parts.{Delivers}
 use Rattle.engine.proofs.Zeros.{cleared_all, wrote_front}
 use Rattle.engine.proofs.Telling.{fits, over_room, over_image, told_kept, told_written}
 
-to≢no : {n k : ℕ} {C : Type 0} → To n ≡ No k → C
-to≢no e = let z : ◌≡◌ {A = ℕ} 0 1 = cc in absurd (omega arith)
+-- no two of a cursor, the empty state and a refusal are one answer
+differ : {C : Type 0} → ◌≡◌ {A = ℕ} 0 1 → C
+differ z = absurd (omega arith)
+
+-- an error of which that is known is that error
+pub err_is : {T E : Type 0} {e : E} (r : Result T E) → IsErrAnd r (λ x. x ≡ e) → r ≡ Err e
+err_is (Ok x) h = absurd h
+err_is (Err x) h = ap Err h
 
 -- a cursor: there is a next state, and its image was written
 pub record ToNext (o : Outcome) (before : List ℕ) (n : ℕ) (work : List ℕ) : Type 0 where
@@ -35,49 +43,57 @@ pub record ToNext (o : Outcome) (before : List ℕ) (n : ℕ) (work : List ℕ) 
   pub is : o ≡ next state
   pub wrote : Wrote (image state) before 0 n work
 
-pub to_next : (o : Outcome) (before : List ℕ) (n : ℕ) (work : List ℕ) → Acted o before (To n) work
+pub to_next : (o : Outcome) (before : List ℕ) (n : ℕ) (work : List ℕ) → Acted o before (Ok (To n)) work
     → ToNext o before n work
 to_next (next t) before n work (to, e, w) =
     let same : to ≡ n = cc in
     record { state = t; is = refl; wrote = along (λ (k : ℕ). Wrote (image t) before 0 k work) same w }
-to_next emptied before n work (e, f) = to≢no e
-to_next finished before n work (e, f) = to≢no e
-to_next waits before n work (e, f) = to≢no e
-to_next (stuck by_shape) before n work (e, f) = to≢no e
-to_next (stuck by_location) before n work (e, f) = to≢no e
-to_next not_live before n work (e, f) = to≢no e
-to_next no_number before n work (e, f) = to≢no e
+to_next emptied before n work (e, f) = differ (cc)
+to_next finished before n work (e, f) = differ (cc)
+to_next waits before n work (e, f) = differ (cc)
+to_next (stuck by_shape) before n work (e, f) = differ (cc)
+to_next (stuck by_location) before n work (e, f) = differ (cc)
+to_next not_live before n work (e, f) = differ (cc)
+to_next no_number before n work (e, f) = differ (cc)
 
--- a number: that of the outcome, which leads to the empty state or to none, and nothing was written
-pub record NoNext (o : Outcome) (before : List ℕ) (k : ℕ) (work : List ℕ) : Type 0 where
-  pub number : number_of o ≡ k
-  pub leads : leads_to o ≡ choose (eqb k 1) (some []) none
-  pub low : 1 ≤ k
-  pub high : k ≤ 7
+-- the empty state
+pub to_empty : (o : Outcome) (before work : List ℕ) → Acted o before (Ok Emptied) work → o ≡ emptied
+to_empty (next t) before work (to, e, w) = differ (cc)
+to_empty emptied before work (e, f) = refl
+to_empty finished before work (e, f) = differ (cc)
+to_empty waits before work (e, f) = differ (cc)
+to_empty (stuck by_shape) before work (e, f) = differ (cc)
+to_empty (stuck by_location) before work (e, f) = differ (cc)
+to_empty not_live before work (e, f) = differ (cc)
+to_empty no_number before work (e, f) = differ (cc)
+
+-- a refusal: the outcome has its number and leads to no state, and nothing was written
+pub record NoNext (o : Outcome) (before : List ℕ) (e : Refusal) (work : List ℕ) : Type 0 where
+  pub number : number_of o ≡ stepped_number (Err (step_error e))
+  pub leads : leads_to o ≡ none
+  pub low : 2 ≤ number_of o
   pub same : work ≡ before
 
-pub no_next : (o : Outcome) (before : List ℕ) (k : ℕ) (work : List ℕ) → Acted o before (No k) work
-    → NoNext o before k work
-no_next o before k work acted = cases o acted
+pub no_next : (o : Outcome) (before : List ℕ) (e : Refusal) (work : List ℕ) → Acted o before (Err e) work
+    → NoNext o before e work
+no_next o before e work acted = cases o acted
   where
-    is : (o : Outcome) (j : ℕ) → NoNext o before j work → No k ≡ No j → NoNext o before k work
-    is o j n e = let same : j ≡ k = cc in along (λ (i : ℕ). NoNext o before i work) same n
+    is : (o : Outcome) (f : Refusal) → number_of o ≡ stepped_number (Err (step_error f)) → leads_to o ≡ none
+        → 2 ≤ number_of o → (◌≡◌ {A = Result Moved Refusal} (Err e) (Err f)) × (work ≡ before)
+        → NoNext o before e work
+    is o f n l h (p, s) =
+        let same : f ≡ e = cc in
+        along (λ i. NoNext o before i work) same (record { number = n; leads = l; low = h; same = s })
 
-    told : (o : Outcome) → leads_to o ≡ choose (eqb (number_of o) 1) (some []) none → 1 ≤ number_of o → number_of o ≤ 7
-        → work ≡ before → NoNext o before (number_of o) work
-    told o l a b f = record { number = refl; leads = l; low = a; high = b; same = f }
-
-    cases : (o : Outcome) → Acted o before (No k) work → NoNext o before k work
-    cases (next t) (to, e, w) = to≢no (sym e)
-    cases emptied (e, f) = is emptied 1 (told emptied refl (omega arith) (omega arith) f) e
-    cases finished (e, f) = is finished 2 (told finished refl (omega arith) (omega arith) f) e
-    cases waits (e, f) = is waits 3 (told waits refl (omega arith) (omega arith) f) e
-    cases (stuck by_shape) (e, f) =
-        is (stuck by_shape) 4 (told (stuck by_shape) refl (omega arith) (omega arith) f) e
-    cases (stuck by_location) (e, f) =
-        is (stuck by_location) 5 (told (stuck by_location) refl (omega arith) (omega arith) f) e
-    cases not_live (e, f) = is not_live 6 (told not_live refl (omega arith) (omega arith) f) e
-    cases no_number (e, f) = is no_number 7 (told no_number refl (omega arith) (omega arith) f) e
+    cases : (o : Outcome) → Acted o before (Err e) work → NoNext o before e work
+    cases (next t) (to, p, w) = differ (cc)
+    cases emptied (p, s) = differ (cc)
+    cases finished a = is finished Finished refl refl (omega arith) a
+    cases waits a = is waits Waits refl refl (omega arith) a
+    cases (stuck by_shape) a = is (stuck by_shape) (Stuck Shape) refl refl (omega arith) a
+    cases (stuck by_location) a = is (stuck by_location) (Stuck Location) refl refl (omega arith) a
+    cases not_live a = is not_live NotLive refl refl (omega arith) a
+    cases no_number a = is no_number NoNumber refl refl (omega arith) a
 
 -- the image of the empty state
 pub image_nothing : image [] ≡ 0 ∷ []
@@ -89,23 +105,17 @@ pub answer_next : (room : ℕ) (o : Outcome) (t : State) → o ≡ next t
     → outcome_answer room o ≡ within (image_room room) (answer 0 (image t))
 answer_next room o t e = ap (outcome_answer room) e
 
-pub answer_empty : (room : ℕ) (o : Outcome) (before work : List ℕ) → NoNext o before 1 work
+pub answer_empty : (room : ℕ) (o : Outcome) → o ≡ emptied
     → outcome_answer room o ≡ within (image_room room) (answer 1 (0 ∷ []))
-answer_empty room o before work n =
-    ap (λ i. within (image_room room) (imaged i (leads_to o))) n.number
-    ∙ ap (λ l. within (image_room room) (imaged 1 l)) n.leads
-    ∙ ap (λ (ws : List ℕ). within (image_room room) (answer 1 ws)) image_nothing
+answer_empty room o e =
+    ap (outcome_answer room) e ∙ ap (λ (ws : List ℕ). within (image_room room) (answer 1 ws)) image_nothing
 
-pub leads_none : (o : Outcome) (before : List ℕ) (k : ℕ) (work : List ℕ) → NoNext o before k work → (k ≡ 1 → ⊥)
-    → leads_to o ≡ none
-leads_none o before k work n h = n.leads ∙ ap (λ b. choose b (some []) none) (ne_eqb k 1 h)
-
-pub answer_refused : (room : ℕ) (o : Outcome) (before : List ℕ) (k : ℕ) (work : List ℕ) → NoNext o before k work
-    → (k ≡ 1 → ⊥) → outcome_answer room o ≡ refused k
-answer_refused room o before k work n h =
-    ap (λ l. within (image_room room) (imaged (number_of o) l)) (leads_none o before k work n h)
+pub answer_refused : (room : ℕ) (o : Outcome) (before : List ℕ) (e : Refusal) (work : List ℕ) → NoNext o before e work
+    → outcome_answer room o ≡ refused (stepped_number (Err (step_error e)))
+answer_refused room o before e work n =
+    ap (λ l. within (image_room room) (imaged (number_of o) l)) n.leads
     ∙ ap (λ i. within (image_room room) (refused i)) n.number
-    ∙ fits room (refused k) (omega arith) (omega arith)
+    ∙ fits room (refused (stepped_number (Err (step_error e)))) (omega arith) (omega arith)
 
 -- the cursor against the length of the image, in a work buffer of 8,192 words
 pub cursor_over : {ws before : List ℕ} {n : ℕ} {work : List ℕ} → Wrote ws before 0 n work → length before ≡ 8192
@@ -124,7 +134,7 @@ cursor_front ws before n work w b h =
     ap (λ k. take k work) l.0 ∙ front
 
 -- one law for each way through the functions that deliver
-pub moved_over : (n : ℕ) (work out : List ℕ) → length work < n → Delivers (To n) work out NoRoom out
+pub moved_over : (n : ℕ) (work out : List ℕ) → length work < n → Delivers (To n) work out (Err NoRoom) out
 moved_over n work out h =
     record {
       tells = λ o before size acted.
@@ -136,7 +146,7 @@ moved_over n work out h =
     }
 
 pub moved_no_room : (n : ℕ) (work out : List ℕ) → n ≤ length work → length out < n
-    → Delivers (To n) work out NoRoom out
+    → Delivers (To n) work out (Err NoRoom) out
 moved_no_room n work out h k =
     record {
       tells = λ o before size acted.
@@ -149,7 +159,7 @@ moved_no_room n work out h k =
     }
 
 pub moved : (n : ℕ) (work out out' : List ℕ) → n ≤ length work → n ≤ length out → Filled work n out out'
-    → Delivers (To n) work out (Moved n) out'
+    → Delivers (To n) work out (Ok (stepped.Moved n)) out'
 moved n work out out' h k f =
     record {
       tells = λ o before size acted.
@@ -164,57 +174,26 @@ moved n work out out' h k f =
           (f.holds ∙ ap (λ (ws : List ℕ). ws ++ replicate (length out - n) 0) e);
     }
 
-pub empty_no_room : (work out : List ℕ) → length out < 1 → Delivers (No 1) work out NoRoom out
+pub empty_no_room : (work out : List ℕ) → length out < 1 → Delivers Emptied work out (Err NoRoom) out
 empty_no_room work out h =
     record {
       tells = λ o before size acted.
           told_kept (outcome_answer (length out) o) 9 out
-          (answer_empty (length out) o before work (no_next o before 1 work acted)
+          (answer_empty (length out) o (to_empty o before work acted)
           ∙ over_room (length out) (answer 1 (0 ∷ [])) h)
           (omega arith);
     }
 
 pub empty_told : (work out out' : List ℕ) → 1 ≤ length out → Cleared out 0 out'
-    → Delivers (No 1) work out (Emptied 1) out'
+    → Delivers Emptied work out (Ok (stepped.Emptied 1)) out'
 empty_told work out out' h c =
     let k : length out ≡ suc (length out - 1) = omega arith in
     record {
       tells = λ o before size acted.
           told_written (outcome_answer (length out) o) 1 (0 ∷ []) 1 out out'
-          (answer_empty (length out) o before work (no_next o before 1 work acted)
+          (answer_empty (length out) o (to_empty o before work acted)
           ∙ fits (length out) (answer 1 (0 ∷ [])) h (omega arith))
           (omega arith)
           refl
           (cleared_all c ∙ ap (λ i. replicate i 0) k);
     }
-
--- the act as it was matched
-pub deliver_moved : (a : Act) (n : ℕ) (work out : List ℕ) (s : Stepped) (out' : List ℕ) → a ≡ To n
-    → Delivers (To n) work out s out' → Delivers a work out s out'
-deliver_moved a n work out s out' e d = along (λ (b : Act). Delivers b work out s out') (sym e) d
-
-pub deliver_empty : (a : Act) (k : ℕ) (work out : List ℕ) (s : Stepped) (out' : List ℕ) → a ≡ No k → k ≡ 1
-    → Delivers (No 1) work out s out' → Delivers a work out s out'
-deliver_empty a k work out s out' e h d = along (λ (b : Act). Delivers b work out s out') (sym (e ∙ ap No h)) d
-
-pub deliver_refused : (a : Act) (k : ℕ) (work out : List ℕ) (s : Stepped) → a ≡ No k → (k ≡ 1 → ⊥) → Refuses k s
-    → Delivers a work out s out
-deliver_refused a k work out s e h f =
-    along
-    (λ (b : Act). Delivers b work out s out)
-    (sym e)
-    (record {
-      tells = λ o before size acted.
-          let n = no_next o before k work acted in
-          let low : 2 ≤ k = two n.low in
-          along
-          (λ (i : ℕ). Told (outcome_answer (length out) o) i (stepped_length s) out out)
-          (sym (f.number low n.high))
-          (along
-          (λ (i : ℕ). Told (outcome_answer (length out) o) k i out out)
-          (sym f.length)
-          (told_kept (outcome_answer (length out) o) k out (answer_refused (length out) o before k work n h) low));
-    })
-  where
-    two : 1 ≤ k → 2 ≤ k
-    two l = omega (arith, h)

@@ -1,39 +1,38 @@
--- Loading a script: the order of the refusals, and the image of the first state as it is written.
+-- Loading a script: its refusals, and the image of the first state as it is written.
 use Prim.Native.Nat.{ℕ, zero, suc, ◌+◌, ◌-◌, ◌<◌, ◌≤◌}
-use mathlib.Core.Bool.{Bool, true, false, not}
+use mathlib.Core.Bool.{Bool, true, false}
 use mathlib.Core.List.{List, [], ◌∷◌, ◌++◌, append-nil}
 use mathlib.Core.Option.{Option, none, some}
 use mathlib.Core.Path.{subst as along, ◌≡◌, refl, sym, ap, ◌∙◌}
 use native.Mathlib.Omega.{arith}
 use lib.ListN.{length, drop, set, replicate, length-replicate}
-use lib.Seq.{sets, sets-eq, take_all}
-use borrow.Author.Tests.{le-leb, lt-leb, not-true, not-false}
-use Rattle.calculus.specs.Options.{◌▸◌, test}
+use lib.Dec.{leb, leb→le}
+use lib.Seq.{sets, sets-eq}
 use Rattle.calculus.specs.Expressions.{Expression}
 use Rattle.calculus.specs.Words.{words}
-use Rattle.calculus.specs.Formed.{Formed, closed}
-use Rattle.calculus.specs.Reading.{read_expression, wholly, expression_of}
+use Rattle.calculus.specs.Formed.{closed, holds_handle}
+use Rattle.calculus.specs.Reading.{expression_of}
 use Rattle.calculus.specs.Numbers.{choose}
 use Rattle.calculus.specs.States.{first}
 use Rattle.calculus.specs.Images.{image, task_words}
 use Rattle.calculus.specs.Answers.{Answer, answer, within, image_room}
 use Rattle.calculus.specs.Answers.{script, no_script, script_if, script_of, loaded_from, load_answer}
-use Rattle.calculus.proofs.Options.{none≢some, some_inj}
-use Rattle.calculus.proofs.Reading.{words_read}
-use Rattle.words.specs.declared.walk.Walk.{Walk}
-use Rattle.words.specs.declared.walk.Walk.TheVariants.{Ends, Broken}
-use Rattle.words.specs.Walks.{walk_of, is_there, closed_end_of}
-use Rattle.words.specs.Names.{HandleTold}
-use Rattle.write.specs.Cursor.{part, Wrote}
-use Rattle.engine.specs.declared.answers.Loaded.{Loaded}
-use Rattle.engine.specs.declared.answers.Loaded.TheVariants.{First, NotFormed, HoldsHandle, NotClosed, NoRoom}
-use Rattle.engine.specs.Answers.{loaded_number, loaded_length}
-use Rattle.engine.specs.Buffers.{Cleared}
-use Rattle.engine.specs.Parts.{Told, FirstTold, LoadTold}
+use Rattle.words.specs.declared.script.ScriptError.{ScriptError}
+use Rattle.words.specs.declared.script.ScriptError.TheVariants as script
+use Rattle.words.specs.Buffers.{Cleared}
+use Rattle.words.specs.Scripts.{script_number, ScriptTold}
+use Rattle.words.proofs.Scripted.{words_of}
+use Rattle.write.specs.Cursor.{Wrote}
+use Rattle.std.specs.Prelude.{Result, Ok, Err, IsErrAnd}
+use Rattle.engine.specs.declared.answers.LoadError.{LoadError}
+use Rattle.engine.specs.declared.answers.LoadError.TheVariants.{NoRoom}
+use Rattle.engine.specs.Answers.{load_error, loaded_number, loaded_length}
+use Rattle.engine.specs.Parts.{Told, FirstTold}
 use Rattle.engine.specs.Promises.{LoadPromise}
-use Rattle.engine.proofs.Zeros.{cleared_all, cleared_size, part_front}
+use Rattle.engine.proofs.Zeros.{cleared_all, cleared_size}
 use Rattle.engine.proofs.Telling.{fits, over_room, told_kept, told_written}
-use Rattle.engine.proofs.Stepping.{there, not_there, right_work, wrong_work}
+use Rattle.engine.proofs.Delivering.{err_is}
+use Rattle.engine.proofs.Stepping.{right_work, wrong_work}
 
 -- the first state's image is four words and the script
 image_first : (e : Expression) → image (first e) ≡ 1 ∷ 0 ∷ 0 ∷ 0 ∷ words e
@@ -47,7 +46,7 @@ drop_zeros (suc k) (suc n) =
     let e : suc n - suc k ≡ n - k = omega arith in drop_zeros k n ∙ ap (λ i. replicate i 0) (sym e)
 
 -- one law for each way through the writing
-pub first_no_room : (ws out : List ℕ) → length out < length ws + 4 → FirstTold ws out NoRoom out
+pub first_no_room : (ws out : List ℕ) → length out < length ws + 4 → FirstTold ws out (Err NoRoom) out
 first_no_room ws out h =
     record {
       told = told_kept (within (image_room (length out)) (answer 0 (1 ∷ 0 ∷ 0 ∷ 0 ∷ ws))) 9 out
@@ -57,7 +56,7 @@ first_no_room ws out h =
 
 pub first_written : (ws out o₁ : List ℕ) (r : ℕ) (o₂ : List ℕ) (r' : ℕ) (o₃ : List ℕ) → length ws ≤ 2048
     → length ws + 4 ≤ length out → Cleared out 0 o₁ → Wrote (1 ∷ []) o₁ 0 r o₂
-    → Wrote (part ws 0 (length ws)) o₂ 4 r' o₃ → FirstTold ws out (First (length ws + 4)) o₃
+    → Wrote ws o₂ 4 r' o₃ → FirstTold ws out (Ok (length ws + 4)) o₃
 first_written ws out o₁ r o₂ r' o₃ s h c w v =
     record {
       told = told_written
@@ -70,12 +69,9 @@ first_written ws out o₁ r o₂ r' o₃ s h c w v =
           (fits (length out) (answer 0 (1 ∷ 0 ∷ 0 ∷ 0 ∷ ws)) (omega arith) (omega arith))
           (omega arith)
           (omega arith)
-          (v.out ∙ ap (sets o₂ 4) all ∙ ap (λ (l : List ℕ). sets l 4 ws) start ∙ end);
+          (v.out ∙ ap (λ (l : List ℕ). sets l 4 ws) start ∙ end);
     }
   where
-    all : part ws 0 (length ws) ≡ ws
-    all = part_front ws (length ws) ∙ take_all (length ws) ws (omega arith)
-
     start : o₂ ≡ 1 ∷ 0 ∷ 0 ∷ 0 ∷ replicate (length out - 4) 0
     start =
         let e : length out ≡ suc (suc (suc (suc (length out - 4)))) = omega arith in
@@ -96,156 +92,42 @@ first_written ws out o₁ r o₂ r' o₃ s h c w v =
         ∙ ap (λ (l : List ℕ). 1 ∷ 0 ∷ 0 ∷ 0 ∷ (ws ++ l)) (drop_zeros (length ws) (length out - 4))
         ∙ ap (λ k. 1 ∷ 0 ∷ 0 ∷ 0 ∷ (ws ++ replicate k 0)) left
 
--- the words as one expression
-record Reads (ws : List ℕ) (e : Expression) : Type 0 where
-  is : ws ≡ words e
-  formed : Formed e
-  whole : expression_of ws ≡ some e
-  ends : closed_end_of ws 0 ≡ (test (closed e) ▸ λ u. some (0 + length (words e)))
+-- a script's words and their number
+record IsScript (ws : List ℕ) (e : Expression) : Type 0 where
+  pub written : ws ≡ words e
+  pub short : length ws ≤ 2048
 
-reads : (ws : List ℕ) (v : Bool) → v ≡ is_there (expression_of ws) → not v ≡ false → (e : Expression) × Reads ws e
-unfolding expression_of closed_end_of
-reads ws v p q =
-    let (e, g) = there (expression_of ws) (sym p ∙ not-false v q) in
-    (e, go e (read_expression (length ws) ws) refl g)
-  where
-    go : (e : Expression) (o : Option (Expression × List ℕ)) → read_expression (length ws) ws ≡ o → wholly o ≡ some e
-        → Reads ws e
-    go e none r g = none≢some g
-    go e (some (a, [])) r g =
-        let same : a ≡ e = some_inj g in
-        let read = words_read (length ws) ws (a, []) r in
-        along
-        (λ (x : Expression). Reads ws x)
-        same
-        (record {
-          is = read.0 ∙ append-nil (words a);
-          formed = read.1;
-          whole = ap wholly r;
-          ends = ap
-              (λ (o : Option (Expression × List ℕ)). o
-              ▸ λ p. test (closed p.0) ▸ λ u. some (0 + length (words p.0)))
-              r;
-        })
-    go e (some (a, x ∷ rest)) r g = none≢some g
+not_script : {n : ℕ} {e : Expression} {C : Type 0} → no_script n ≡ script e → C
+not_script h = absurd (let z : ◌≡◌ {A = ℕ} 0 1 = cc in omega arith)
 
--- what a script's words come to
-script_long : (ws : List ℕ) → 2048 < length ws → script_of ws ≡ no_script 10
+is_script_lem : (ws : List ℕ) (e : Expression) → script_of ws ≡ script e → IsScript ws e
 unfolding script_of
-script_long ws h = ap (λ b. choose b (script_if (expression_of ws)) (no_script 10)) (lt-leb (length ws) 2048 h)
-
-script_short : (ws : List ℕ) → length ws ≤ 2048 → script_of ws ≡ script_if (expression_of ws)
-unfolding script_of
-script_short ws h = ap (λ b. choose b (script_if (expression_of ws)) (no_script 10)) (le-leb (length ws) 2048 h)
-
-script_handle : (ws : List ℕ) (e : Expression) → length ws ≤ 2048 → Reads ws e → (b : Bool) → HandleTold ws b
-    → script_of ws ≡ choose b (no_script 11) (choose (closed e) (script e) (no_script 12))
-script_handle ws e h r b t =
-    script_short ws h
-    ∙ ap script_if r.whole
-    ∙ ap
-    (λ b. choose b (no_script 11) (choose (closed e) (script e) (no_script 12)))
-    (sym (t.told e r.is r.formed))
-
--- closed as the walk tells it
-closed_broken : (ws : List ℕ) (e : Expression) → Reads ws e → (w : Walk) → w ≡ walk_of (closed_end_of ws 0) → w ≡ Broken
-    → closed e ≡ false
-closed_broken ws e r w p q = go (closed e) refl
+is_script_lem ws e h = long (leb (length ws) 2048) refl h
   where
-    go : (b : Bool) → closed e ≡ b → closed e ≡ false
-    go false f = f
-    go true f =
-        let g : closed_end_of ws 0 ≡ some (0 + length (words e)) =
-        r.ends ∙ ap (λ b. test b ▸ λ u. some (0 + length (words e))) f in
-        let k : walk_of (closed_end_of ws 0) ≡ Ends (0 + length (words e)) = ap walk_of g in
-        let z : ◌≡◌ {A = ℕ} 0 1 = cc in
-        absurd (omega arith)
+    closed_is : (d : Expression) (b : Bool) → choose b (script d) (no_script 12) ≡ script e → d ≡ e
+    closed_is d true q = cc
+    closed_is d false q = not_script q
 
-closed_ends_lem : (ws : List ℕ) (e : Expression) → Reads ws e → (w : Walk) (end : ℕ) → w ≡ walk_of (closed_end_of ws 0)
-    → w ≡ Ends end → closed e ≡ true
-closed_ends_lem ws e r w end p q = go (closed e) refl
-  where
-    go : (b : Bool) → closed e ≡ b → closed e ≡ true
-    go true f = f
-    go false f =
-        let g : closed_end_of ws 0 ≡ none = r.ends ∙ ap (λ b. test b ▸ λ u. some (0 + length (words e))) f in
-        let k : walk_of (closed_end_of ws 0) ≡ Broken = ap walk_of g in
-        let z : ◌≡◌ {A = ℕ} 0 1 = cc in
-        absurd (omega arith)
+    holds_none : (d : Expression) (b : Bool)
+        → choose b (no_script 11) (choose (closed d) (script d) (no_script 12)) ≡ script e → d ≡ e
+    holds_none d true q = not_script q
+    holds_none d false q = closed_is d (closed d) q
 
--- a script that is none
-load_none : (ws out : List ℕ) (k : ℕ) (s : Loaded) → script_of ws ≡ no_script k → loaded_number s ≡ k
-    → loaded_length s ≡ 0 → 2 ≤ k → LoadTold ws out s out
-load_none ws out k s e n l h =
-    record {
-      told = along
-          (λ (i : ℕ). Told (loaded_from (length out) (script_of ws)) i (loaded_length s) out out)
-          (sym n)
-          (along
-          (λ (i : ℕ). Told (loaded_from (length out) (script_of ws)) k i out out)
-          (sym l)
-          (told_kept (loaded_from (length out) (script_of ws)) k out (ap (loaded_from (length out)) e) h));
-    }
+    read : length ws ≤ 2048 → (o : Option Expression) → expression_of ws ≡ o → script_if o ≡ script e → IsScript ws e
+    read l none p q = not_script q
+    read l (some d) p q =
+        along (IsScript ws) (holds_none d (holds_handle d) q) (record { written = (words_of ws d p).0; short = l })
 
--- one law for each way through the tests
-pub load_long : (ws out : List ℕ) → 2048 < length ws → LoadTold ws out NotFormed out
-load_long ws out h = load_none ws out 10 NotFormed (script_long ws h) refl refl (omega arith)
+    long : (b : Bool) → leb (length ws) 2048 ≡ b → choose b (script_if (expression_of ws)) (no_script 10) ≡ script e
+        → IsScript ws e
+    long true p q = read (leb→le (length ws) 2048 (rw p tt)) (expression_of ws) refl q
+    long false p q = not_script q
 
-pub load_not_formed : (ws out : List ℕ) (v : Bool) → length ws ≤ 2048 → v ≡ is_there (expression_of ws) → not v ≡ true
-    → LoadTold ws out NotFormed out
-load_not_formed ws out v h p q =
-    load_none ws out 10 NotFormed
-    (script_short ws h ∙ ap script_if (not_there (expression_of ws) (sym p ∙ not-true v q)))
-    refl
-    refl
-    (omega arith)
-
-pub load_handle : (ws out : List ℕ) (v b : Bool) → length ws ≤ 2048 → v ≡ is_there (expression_of ws) → not v ≡ false
-    → HandleTold ws b → b ≡ true → LoadTold ws out HoldsHandle out
-load_handle ws out v b h p q t i =
-    let (e, r) = reads ws v p q in
-    load_none ws out 11 HoldsHandle
-    (script_handle ws e h r b t
-    ∙ ap (λ b. choose b (no_script 11) (choose (closed e) (script e) (no_script 12))) i)
-    refl
-    refl
-    (omega arith)
-
-pub load_not_closed : (ws out : List ℕ) (v b : Bool) (w : Walk) → length ws ≤ 2048 → v ≡ is_there (expression_of ws)
-    → not v ≡ false → HandleTold ws b → b ≡ false → w ≡ walk_of (closed_end_of ws 0) → w ≡ Broken
-    → LoadTold ws out NotClosed out
-load_not_closed ws out v b w h p q t i f g =
-    let (e, r) = reads ws v p q in
-    load_none ws out 12 NotClosed
-    (script_handle ws e h r b t
-    ∙ ap (λ b. choose b (no_script 11) (choose (closed e) (script e) (no_script 12))) i
-    ∙ ap (λ b. choose b (script e) (no_script 12)) (closed_broken ws e r w f g))
-    refl
-    refl
-    (omega arith)
-
-pub load_first : (ws out : List ℕ) (v b : Bool) (w : Walk) (end : ℕ) (s : Loaded) (out' : List ℕ) → length ws ≤ 2048
-    → v ≡ is_there (expression_of ws) → not v ≡ false → HandleTold ws b → b ≡ false → w ≡ walk_of (closed_end_of ws 0)
-    → w ≡ Ends end → FirstTold ws out s out' → LoadTold ws out s out'
-load_first ws out v b w end s out' h p q t i f g d =
-    let (e, r) = reads ws v p q in
-    let is : script_of ws ≡ script e = script_handle ws e h r b t
-    ∙ ap (λ b. choose b (no_script 11) (choose (closed e) (script e) (no_script 12))) i
-    ∙ ap (λ b. choose b (script e) (no_script 12)) (closed_ends_lem ws e r w end f g) in
-    let shown : image (first e) ≡ 1 ∷ 0 ∷ 0 ∷ 0 ∷ ws =
-    image_first e ∙ ap (λ (l : List ℕ). 1 ∷ 0 ∷ 0 ∷ 0 ∷ l) (sym r.is) in
-    record {
-      told = along
-          (λ (x : Answer). Told x (loaded_number s) (loaded_length s) out out')
-          (sym (
-          ap (loaded_from (length out)) is
-          ∙ ap (λ (l : List ℕ). within (image_room (length out)) (answer 0 l)) shown
-          ))
-          d.told;
-    }
+pub script_short : (ws : List ℕ) → ScriptTold ws (Ok tt) → length ws ≤ 2048
+script_short ws (e, h) = (is_script_lem ws e h).short
 
 pub loaded_no_work : (ws out work work' : List ℕ) → Cleared work 0 work' → (length work' ≡ 8192 → ⊥)
-    → LoadPromise ws out work NoRoom out work'
+    → LoadPromise ws out work (Err NoRoom) out work'
 unfolding load_answer
 loaded_no_work ws out work work' c h =
     let l = cleared_size c (omega arith) in
@@ -254,13 +136,40 @@ loaded_no_work ws out work work' c h =
     (omega arith) in
     record { answered = t.answered; measured = t.measured; filled = t.filled; cleared = cleared_all c }
 
-pub loaded : (ws out work work' : List ℕ) (s : Loaded) (out' : List ℕ) → Cleared work 0 work' → length work' ≡ 8192
-    → LoadTold ws out s out' → LoadPromise ws out work s out' work'
-unfolding load_answer
-loaded ws out work work' s out' c h d =
-    let l = cleared_size c (omega arith) in
-    let t = along
-    (λ (x : Answer). Told x (loaded_number s) (loaded_length s) out out')
-    (sym (right_work (length work) (loaded_from (length out) (script_of ws)) (sym l ∙ h)))
-    d.told in
-    record { answered = t.answered; measured = t.measured; filled = t.filled; cleared = cleared_all c }
+module _ (ws out work work' : List ℕ) (c : Cleared work 0 work') (h : length work' ≡ 8192) where
+  answer_is : load_answer ws (length out) (length work) ≡ loaded_from (length out) (script_of ws)
+  unfolding load_answer
+  answer_is =
+      let l = cleared_size c (omega arith) in
+      right_work (length work) (loaded_from (length out) (script_of ws)) (sym l ∙ h)
+
+  told_of : (s : Result ℕ LoadError) (out' : List ℕ)
+      → Told (loaded_from (length out) (script_of ws)) (loaded_number s) (loaded_length s) out out'
+      → LoadPromise ws out work s out' work'
+  told_of s out' d =
+      let t = along (λ (x : Answer). Told x (loaded_number s) (loaded_length s) out out') (sym answer_is) d in
+      record { answered = t.answered; measured = t.measured; filled = t.filled; cleared = cleared_all c }
+
+  pub loaded : (s : Result ℕ LoadError) (out' : List ℕ) → ScriptTold ws (Ok tt) → FirstTold ws out s out'
+      → LoadPromise ws out work s out' work'
+  loaded s out' (e, i) d =
+      let shown : image (first e) ≡ 1 ∷ 0 ∷ 0 ∷ 0 ∷ ws =
+      image_first e ∙ ap (λ (l : List ℕ). 1 ∷ 0 ∷ 0 ∷ 0 ∷ l) (sym (is_script_lem ws e i).written) in
+      told_of s out'
+      (along
+      (λ (x : Answer). Told x (loaded_number s) (loaded_length s) out out')
+      (sym (
+      ap (loaded_from (length out)) i
+      ∙ ap (λ (l : List ℕ). within (image_room (length out)) (answer 0 l)) shown
+      ))
+      d.told)
+
+  pub load_refused : (k : ScriptError) (s : Result ℕ LoadError) → ScriptTold ws (Err k)
+      → IsErrAnd s (λ x. x ≡ load_error k) → LoadPromise ws out work s out work'
+  load_refused k s i j = rw (err_is s j) (told_of (Err (load_error k)) out (refused_told k i))
+    where
+      refused_told : (k : ScriptError) → script_of ws ≡ no_script (script_number k)
+          → Told (loaded_from (length out) (script_of ws)) (loaded_number (Err (load_error k))) 0 out out
+      refused_told script.NotFormed i = told_kept _ 10 out (ap (loaded_from (length out)) i) (omega arith)
+      refused_told script.HoldsHandle i = told_kept _ 11 out (ap (loaded_from (length out)) i) (omega arith)
+      refused_told script.NotClosed i = told_kept _ 12 out (ap (loaded_from (length out)) i) (omega arith)

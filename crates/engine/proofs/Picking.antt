@@ -1,10 +1,10 @@
 -- One pick of a run: the answer's number, and the image that the state buffer holds after it.
 use Prim.Native.Nat.{ℕ, ◌<◌, ◌≤◌}
-use mathlib.Core.List.{List, [], ◌∷◌}
+use mathlib.Core.List.{List, [], ◌∷◌, ◌++◌}
 use mathlib.Core.Option.{none, some}
 use mathlib.Core.Path.{subst as along, ◌≡◌, refl, sym, ap, ◌∙◌}
 use native.Mathlib.Omega.{arith}
-use lib.ListN.{length, take, set, length-set}
+use lib.ListN.{length, take, drop, set, length-set}
 use lib.Seq.{length-take-le}
 use borrow.Author.Tests.{le-leb, lt-leb}
 use Rattle.calculus.specs.Numbers.{choose}
@@ -14,16 +14,21 @@ use Rattle.calculus.specs.Steps.{step}
 use Rattle.calculus.specs.Answers.{Answer, answer, leads_to, state_after, outcome_answer, picked_state}
 use Rattle.calculus.proofs.Rules.{step_rules}
 use Rattle.calculus.proofs.Validity.{step_keeps_valid}
-use Rattle.rules.specs.declared.site.Act.{Act}
-use Rattle.rules.specs.declared.site.Act.TheVariants.{To, No}
+use Rattle.std.specs.Prelude.{Result, Ok, Err, IsErrAnd}
+use Rattle.rules.specs.declared.site.Moved.{Moved}
+use Rattle.rules.specs.declared.site.Moved.TheVariants.{To, Emptied}
+use Rattle.rules.specs.declared.site.Refusal.{Refusal}
 use Rattle.rules.specs.Work.{Acted}
-use Rattle.write.specs.Cursor.{part, Wrote}
-use Rattle.write.proofs.Cursors.{wrote_size, part_length}
 use Rattle.rules.specs.Advancing.{Steps}
+use Rattle.engine.specs.declared.answers.Stepped.{Stepped}
+use Rattle.engine.specs.declared.answers.Stepped.TheVariants as stepped
+use Rattle.engine.specs.declared.answers.StepError.{StepError}
+use Rattle.engine.specs.declared.answers.StepError.TheVariants.{NoRoom}
+use Rattle.engine.specs.Answers.{step_error, stepped_number, length_after}
 use Rattle.engine.specs.Parts.{Holds, Ready, Tries}
-use Rattle.engine.proofs.Zeros.{wrote_front, part_front}
+use Rattle.engine.proofs.Zeros.{fronted}
 use Rattle.engine.proofs.Telling.{fits, over_image}
-use Rattle.engine.proofs.Delivering.{to_next, no_next, image_nothing, leads_none}
+use Rattle.engine.proofs.Delivering.{err_is, to_next, to_empty, no_next, image_nothing}
 use Rattle.engine.proofs.Delivering.{answer_next, answer_empty, answer_refused}
 use Rattle.engine.proofs.Delivering.{cursor_over, cursor_length, cursor_front}
 
@@ -57,12 +62,13 @@ holds_next state m r s t v e h f k =
     (record { valid = step_keeps_valid r s t v (step_rules r s t e) h; shown = f; short = k })
 
 -- a pick from what it does to each state that the buffer may hold
-tries : (state : List ℕ) (n r k m : ℕ) (work state' work' : List ℕ) → Ready state n work → length state' ≡ 8192
-    → length work' ≡ 8192
+tries : (state : List ℕ) (n r : ℕ) (p : Result Stepped StepError) (work state' work' : List ℕ) → Ready state n work
+    → length state' ≡ 8192 → length work' ≡ 8192
     → ((st : State) → Holds state n st
-    → (k ≡ (outcome_answer 8192 (step r st)).number) × Holds state' m (picked_state st r))
-    → Tries state n r (record { number = k; length = m }) state' work'
-tries state n r k m work state' work' ready l w f =
+    → (stepped_number p ≡ (outcome_answer 8192 (step r st)).number)
+    × Holds state' (length_after n p) (picked_state st r))
+    → Tries state n r p state' work'
+tries state n r p work state' work' ready l w f =
     let st = ready.image.state in
     let held : Holds state n st = record {
       valid = ready.image.valid;
@@ -82,21 +88,17 @@ tries state n r k m work state' work' ready l w f =
     }
 
 module _
-    (state : List ℕ) (n r : ℕ) (work : List ℕ) (a : Act) (work' : List ℕ) (ready : Ready state n work)
-    (acts : Steps (take n state) r work a work') (same : length work' ≡ length work)
+    (state : List ℕ) (n r : ℕ) (work work' : List ℕ) (ready : Ready state n work) (same : length work' ≡ length work)
   where
-    acted : (b : Act) (st : State) → Holds state n st → a ≡ b → Acted (step r st) work b work'
-    acted b st h e =
-        along
-        (λ (x : Act). Acted (step r st) work x work')
-        e
-        (acts.acts st h.valid h.shown)
+    acted : (a : Result Moved Refusal) → Steps (take n state) r work a work' → (b : Result Moved Refusal) (st : State)
+        → Holds state n st → a ≡ b → Acted (step r st) work b work'
+    acted a acts b st h e =
+        along (λ (x : Result Moved Refusal). Acted (step r st) work x work') e (acts.acts st h.valid h.shown)
 
-    pub pick_over : (m : ℕ) → a ≡ To m → length work' < m
-        → Tries state n r (record { number = 9; length = n }) state work'
-    pick_over m e h =
-        tries state n r 9 n work state work' ready ready.room (same ∙ ready.size) λ st held.
-        let t = to_next (step r st) work m work' (acted (To m) st held e) in
+    pub pick_over : (a : Moved) → Steps (take n state) r work (Ok a) work' → (m : ℕ) → a ≡ To m → length work' < m → Tries state n r (Err NoRoom) state work'
+    pick_over a acts m e h =
+        tries state n r (Err NoRoom) work state work' ready ready.room (same ∙ ready.size) λ st held.
+        let t = to_next (step r st) work m work' (acted (Ok a) acts (Ok (To m)) st held (ap Ok e)) in
         let long = cursor_over t.wrote ready.size h in (
           sym
               (ap
@@ -105,43 +107,41 @@ module _
           holds_as (picked_over r st t.state (ap leads_to t.is) long) held,
         )
 
-    pub pick_moved : (m q : ℕ) (state' : List ℕ) → a ≡ To m → m ≤ length work'
-        → Wrote (part work' 0 m) state 0 q state' → Tries state n r (record { number = 0; length = m }) state' work'
-    pick_moved m q state' e h w =
-        let size = (wrote_size w).0 in
-        let l = part_length work' 0 m h in
+    pub pick_moved : (a : Moved) → Steps (take n state) r work (Ok a) work' → (m : ℕ) (ys : List ℕ) → a ≡ To m
+        → m ≤ length work' → ys ≡ take m work'
+        → Tries state n r (Ok (stepped.Moved m)) (ys ++ drop m state) work'
+    pick_moved a acts m ys e h w =
         let room = ready.room in
         let full = ready.size in
-        tries state n r 0 m work state' work' ready (size ∙ ready.room) (same ∙ ready.size) λ st held.
-        let t = to_next (step r st) work m work' (acted (To m) st held e) in
+        let f = fronted work' m state ys h (omega arith) w in
+        tries state n r (Ok (stepped.Moved m)) work (ys ++ drop m state) work' ready (f.size ∙ ready.room) (same ∙ ready.size)
+        λ st held.
+        let t = to_next (step r st) work m work' (acted (Ok a) acts (Ok (To m)) st held (ap Ok e)) in
         let c = cursor_length t.wrote ready.size h in
-        let z : length (part work' 0 m) ≡ m = omega arith in
-        let front : take m state' ≡ image t.state =
-        ap (λ k. take k state') (sym z)
-        ∙ (wrote_front (part work' 0 m) state q state' w (omega arith)).0
-        ∙ part_front work' m
-        ∙ cursor_front (image t.state) work m work' t.wrote ready.size h in
-        let short : length (image t.state) ≤ 8192 = omega arith in (
+        let front = f.front ∙ cursor_front (image t.state) work m work' t.wrote ready.size h in
+        let short : length (image t.state) ≤ 8192 = omega arith in
+        let size = f.size in (
           sym
               (ap
               (λ (x : Answer). x.number)
               (answer_next 8192 (step r st) t.state t.is ∙ fits 8192 (answer 0 (image t.state)) short short)),
-          holds_next state' m r st t.state held.valid (ap leads_to t.is) short front (omega arith),
+          holds_next (ys ++ drop m state) m r st t.state held.valid (ap leads_to t.is) short front (omega arith),
         )
 
-    pub pick_emptied : (k : ℕ) → a ≡ No k → k ≡ 1
-        → Tries state n r (record { number = 1; length = 1 }) (set state 0 0) work'
-    pick_emptied k e one =
+    pub pick_emptied : (a : Moved) → Steps (take n state) r work (Ok a) work' → a ≡ Emptied
+        → Tries state n r (Ok (stepped.Emptied 1)) (set state 0 0) work'
+    pick_emptied a acts e =
         let l = length-set state 0 0 in
         let room = ready.room in
-        tries state n r 1 1 work (set state 0 0) work' ready (l ∙ ready.room) (same ∙ ready.size) λ st held.
-        let t = no_next (step r st) work 1 work' (acted (No 1) st held (e ∙ ap No one)) in
+        tries state n r (Ok (stepped.Emptied 1)) work (set state 0 0) work' ready (l ∙ ready.room) (same ∙ ready.size)
+        λ st held.
+        let t = to_empty (step r st) work work' (acted (Ok a) acts (Ok Emptied) st held (ap Ok e)) in
         let size : length (image []) ≡ 1 = ap length image_nothing in (
           sym
               (ap
               (λ (x : Answer). x.number)
-              (answer_empty 8192 (step r st) work work' t ∙ fits 8192 (answer 1 (0 ∷ [])) (omega arith) (omega arith))),
-          holds_next (set state 0 0) 1 r st [] held.valid t.leads (omega arith)
+              (answer_empty 8192 (step r st) t ∙ fits 8192 (answer 1 (0 ∷ [])) (omega arith) (omega arith))),
+          holds_next (set state 0 0) 1 r st [] held.valid (ap leads_to t) (omega arith)
               (front state (omega arith) ∙ sym image_nothing)
               (omega arith),
         )
@@ -150,11 +150,12 @@ module _
         front [] h = absurd (omega arith)
         front (x ∷ l) h = refl
 
-    pub pick_refused : (k : ℕ) → a ≡ No k → (k ≡ 1 → ⊥)
-        → Tries state n r (record { number = k; length = n }) state work'
-    pick_refused k e other =
-        tries state n r k n work state work' ready ready.room (same ∙ ready.size) λ st held.
-        let t = no_next (step r st) work k work' (acted (No k) st held e) in (
-          sym (ap (λ (x : Answer). x.number) (answer_refused 8192 (step r st) work k work' t other)),
-          holds_as (picked_none r st (leads_none (step r st) work k work' t other)) held,
-        )
+    pub pick_refused : (e : Refusal) → Steps (take n state) r work (Err e) work' → (p : Result Stepped StepError)
+        → IsErrAnd p (λ x. x ≡ step_error e) → Tries state n r p state work'
+    pick_refused e acts p i =
+        rw (err_is p i)
+        (tries state n r (Err (step_error e)) work state work' ready ready.room (same ∙ ready.size) λ st held.
+        let t = no_next (step r st) work e work' (acts.acts st held.valid held.shown) in (
+          sym (ap (λ (x : Answer). x.number) (answer_refused 8192 (step r st) work e work' t)),
+          holds_as (picked_none r st t.leads) held,
+        ))

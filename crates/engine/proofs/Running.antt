@@ -18,11 +18,13 @@ use Rattle.calculus.specs.Answers.{Ran, run_refused, ran_from, run_answer, outco
 use Rattle.calculus.specs.Answers.{picked_state, last_state, pick_numbers}
 use Rattle.calculus.proofs.Images.{read_is_image}
 use Rattle.words.specs.Walks.{is_there}
-use Rattle.engine.specs.declared.answers.Ran.{Ran as Answered}
-use Rattle.engine.specs.declared.answers.Ran.TheVariants.{Last, NotValid, NoRoom}
-use Rattle.engine.specs.declared.run.Picked.{Picked}
-use Rattle.engine.specs.Answers.{ran_number, ran_length}
-use Rattle.engine.specs.Buffers.{Cleared}
+use Rattle.std.specs.Prelude.{Result, Ok, Err}
+use Rattle.engine.specs.declared.answers.Stepped.{Stepped}
+use Rattle.engine.specs.declared.answers.StepError.{StepError}
+use Rattle.engine.specs.declared.answers.RunError.{RunError}
+use Rattle.engine.specs.declared.answers.RunError.TheVariants.{NotValid, NoRoom}
+use Rattle.engine.specs.Answers.{stepped_number, length_after, ran_number, ran_length}
+use Rattle.words.specs.Buffers.{Cleared}
 use Rattle.engine.specs.Parts.{Holds, Ready, ReadyFor, Tries, Tried}
 use Rattle.engine.specs.Promises.{RunPromise}
 use Rattle.engine.proofs.Zeros.{cleared_all}
@@ -71,20 +73,21 @@ try_start state n picks answers work r =
       told = λ st held. refl;
     }
 
-pub try_turn : (state₀ : List ℕ) (n₀ : ℕ) (picks answers₀ state answers work : List ℕ) (n i : ℕ) (p : Picked)
-    (state' work' : List ℕ) → Trying state₀ n₀ picks answers₀ state answers work n i → i < length picks
-    → Tries state n (get_or picks i 0) p state' work'
-    → Trying state₀ n₀ picks answers₀ state' (set answers i p.number) work' p.length (i + 1)
-try_turn state₀ n₀ picks answers₀ state answers work n i p state' work' c h t =
+pub try_turn : (state₀ : List ℕ) (n₀ : ℕ) (picks answers₀ state answers work : List ℕ) (n i : ℕ)
+    (p : Result Stepped StepError) (k m : ℕ) (state' work' : List ℕ)
+    → Trying state₀ n₀ picks answers₀ state answers work n i → i < length picks
+    → Tries state n (get_or picks i 0) p state' work' → k ≡ stepped_number p → m ≡ length_after n p
+    → Trying state₀ n₀ picks answers₀ state' (set answers i k) work' m (i + 1)
+try_turn state₀ n₀ picks answers₀ state answers work n i p k m state' work' c h t ki mi = rw (ki, mi) (
     record {
       within = omega arith;
       enough = c.enough;
-      sized = length-set answers i p.number ∙ c.sized;
+      sized = length-set answers i (stepped_number p) ∙ c.sized;
       room = omega (arith, t.ready.room, c.ready.room, c.room);
       ready = t.ready;
       holds = λ st held.
           along
-          (λ (s : State). Holds state' p.length s)
+          (λ (s : State). Holds state' (length_after n p) s)
           (sym (ap (last_state st) more ∙ last_snoc st (take i picks) (get_or picks i 0)))
           (t.holds (last_state st (take i picks)) (c.holds st held));
       told = λ st held.
@@ -93,17 +96,17 @@ try_turn state₀ n₀ picks answers₀ state answers work n i p state' work' c 
           let e = t.number (last_state st (take i picks)) (c.holds st held) in
           let d : drop i answers₀ ≡ get_or answers₀ i 0 ∷ drop (suc i) answers₀ =
           drop-cons answers₀ i 0 (omega (arith, c.enough)) in
-          ap (λ (l : List ℕ). set l i p.number) (c.told st held)
-          ∙ ap (λ (l : List ℕ). set (pick_numbers st (take i picks) ++ l) i p.number) d
-          ∙ set_at (pick_numbers st (take i picks)) (get_or answers₀ i 0) (drop (suc i) answers₀) p.number i l
+          ap (λ (l : List ℕ). set l i (stepped_number p)) (c.told st held)
+          ∙ ap (λ (l : List ℕ). set (pick_numbers st (take i picks) ++ l) i (stepped_number p)) d
+          ∙ set_at (pick_numbers st (take i picks)) (get_or answers₀ i 0) (drop (suc i) answers₀) (stepped_number p) i l
           ∙ sym (
           ap (λ (l : List ℕ). pick_numbers st l ++ drop (i + 1) answers₀) more
           ∙ ap (λ (l : List ℕ). l ++ drop (i + 1) answers₀) (numbers_snoc st (take i picks) (get_or picks i 0))
           ∙ ap (λ k. pick_numbers st (take i picks) ++ (k ∷ []) ++ drop (i + 1) answers₀) (sym e)
-          ∙ append_snoc (pick_numbers st (take i picks)) p.number (drop (i + 1) answers₀)
-          ∙ ap (λ k. pick_numbers st (take i picks) ++ p.number ∷ drop k answers₀) (add-one i)
+          ∙ append_snoc (pick_numbers st (take i picks)) (stepped_number p) (drop (i + 1) answers₀)
+          ∙ ap (λ k. pick_numbers st (take i picks) ++ (stepped_number p) ∷ drop k answers₀) (add-one i)
           );
-    }
+    })
   where
     more : take (i + 1) picks ≡ take i picks ++ (get_or picks i 0 ∷ [])
     more = ap (λ k. take k picks) (add-one i) ∙ take-suc picks i 0 h
@@ -125,7 +128,7 @@ try_done state₀ n₀ picks answers₀ state answers work n i c h =
     }
 
 -- a run's promise from what its answer is
-promised : (state : List ℕ) (n : ℕ) (picks answers work : List ℕ) (x : Ran) (a : Answered)
+promised : (state : List ℕ) (n : ℕ) (picks answers work : List ℕ) (x : Ran) (a : Result ℕ RunError)
     (state' answers' work' : List ℕ) → run_answer state n picks answers work ≡ x → ran_number a ≡ x.number
     → ran_length a ≡ x.length → state' ≡ x.state → answers' ≡ x.answers → work' ≡ x.work
     → RunPromise state n picks answers work a state' answers' work'
@@ -154,10 +157,10 @@ module _ (state : List ℕ) (n : ℕ) (picks answers work : List ℕ) where
   whole b = choose b inside (run_refused 9 state answers work)
 
   refused_nine : (eqb (length state) 8192 && (eqb (length work) 8192 && leb (length picks) (length answers))) ≡ false
-      → RunPromise state n picks answers work NoRoom state answers work
+      → RunPromise state n picks answers work (Err NoRoom) state answers work
   unfolding run_answer
   refused_nine e =
-      promised state n picks answers work (run_refused 9 state answers work) NoRoom state answers work
+      promised state n picks answers work (run_refused 9 state answers work) (Err NoRoom) state answers work
       (ap whole e)
       refl
       refl
@@ -165,13 +168,13 @@ module _ (state : List ℕ) (n : ℕ) (picks answers work : List ℕ) where
       refl
       refl
 
-  pub run_no_state : (length state ≡ 8192 → ⊥) → RunPromise state n picks answers work NoRoom state answers work
+  pub run_no_state : (length state ≡ 8192 → ⊥) → RunPromise state n picks answers work (Err NoRoom) state answers work
   run_no_state h =
       refused_nine
       (ap (λ b. b && (eqb (length work) 8192 && leb (length picks) (length answers))) (ne_eqb (length state) 8192 h))
 
   pub run_no_work : length state ≡ 8192 → (length work ≡ 8192 → ⊥)
-      → RunPromise state n picks answers work NoRoom state answers work
+      → RunPromise state n picks answers work (Err NoRoom) state answers work
   run_no_work s h =
       refused_nine
       (ap (λ b. b && (eqb (length work) 8192 && leb (length picks) (length answers))) (eq-eqb (length state) 8192 s)
@@ -185,7 +188,7 @@ module _ (state : List ℕ) (n : ℕ) (picks answers work : List ℕ) where
         ∙ ap (λ b. b && leb (length picks) (length answers)) (eq-eqb (length work) 8192 w)
         ∙ e
 
-    pub run_no_answers : length answers < length picks → RunPromise state n picks answers work NoRoom state answers work
+    pub run_no_answers : length answers < length picks → RunPromise state n picks answers work (Err NoRoom) state answers work
     run_no_answers h = refused_nine (lengths false (lt-leb (length picks) (length answers) h))
 
     module _ (enough : length picks ≤ length answers) where
@@ -193,9 +196,9 @@ module _ (state : List ℕ) (n : ℕ) (picks answers work : List ℕ) where
       unfolding run_answer
       right = ap whole (lengths true (le-leb (length picks) (length answers) enough))
 
-      pub run_long : 8192 < n → RunPromise state n picks answers work NotValid state answers work
+      pub run_long : 8192 < n → RunPromise state n picks answers work (Err NotValid) state answers work
       run_long h =
-          promised state n picks answers work (run_refused 8 state answers work) NotValid state answers work
+          promised state n picks answers work (run_refused 8 state answers work) (Err NotValid) state answers work
           (right
           ∙ ap
           (λ b. choose b (ran_from state picks answers work (state_of (take n state))) (run_refused 8 state answers work))
@@ -215,9 +218,9 @@ module _ (state : List ℕ) (n : ℕ) (picks answers work : List ℕ) where
             choose b (ran_from state picks answers work (state_of (take n state))) (run_refused 8 state answers work))
             (le-leb n 8192 short)
 
-        pub run_not_valid : not v ≡ true → RunPromise state n picks answers work NotValid state answers work
+        pub run_not_valid : not v ≡ true → RunPromise state n picks answers work (Err NotValid) state answers work
         run_not_valid f =
-            promised state n picks answers work (run_refused 8 state answers work) NotValid state answers work
+            promised state n picks answers work (run_refused 8 state answers work) (Err NotValid) state answers work
             (read
             ∙ ap
             (ran_from state picks answers work)
@@ -237,7 +240,7 @@ module _ (state : List ℕ) (n : ℕ) (picks answers work : List ℕ) where
 
         pub run_done : not v ≡ false → (state₁ : List ℕ) (m : ℕ) (answers₁ work₁ state₂ work₂ : List ℕ)
             → Tried state n picks answers state₁ m answers₁ work₁ → Cleared state₁ m state₂ → Cleared work₁ 0 work₂
-            → RunPromise state n picks answers work (Last m) state₂ answers₁ work₂
+            → RunPromise state n picks answers work (Ok m) state₂ answers₁ work₂
         run_done f state₁ m answers₁ work₁ state₂ work₂ t c d =
             let (st, g) = there (state_of (take n state)) (sym told ∙ not-false v f) in
             let (is, valid) = read_is_image (take n state) st g in
@@ -248,7 +251,7 @@ module _ (state : List ℕ) (n : ℕ) (picks answers work : List ℕ) where
             let room = t.ready.room in
             let full : length work₁ ≡ length work = t.ready.size ∙ sym w in
             promised state n picks answers work
-            (ran_from state picks answers work (some st)) (Last m) state₂ answers₁ work₂
+            (ran_from state picks answers work (some st)) (Ok m) state₂ answers₁ work₂
             (read ∙ ap (ran_from state picks answers work) g)
             refl
             size

@@ -1,16 +1,20 @@
-// The answers, as paper 01 numbers them (specs/Answers.antt gives each its number and length).
+// The answers of a step, a load and a run, and the number of each (specs/Answers.antt).
+ghost use Rattle.std.specs.Prelude.{◌≡◌};
+ghost use Rattle.engine.specs.Answers as answers;
 
-#[derive(Drop)]
-pub enum Reason {
-    Shape,
-    Location,
-}
+use rules::site::{Reason, Refusal};
+use words::script::ScriptError;
 
-// Of a step: 0 with the length written, 1 with the length written, 2, 3, 4 and 5, 6, 7, 8, 9.
-#[derive(Drop)]
+// A step taken, with the length of the image written: the next state's, or the empty state's.
+#[derive(Clone, Copy, PartialEq, Eq, Debug)]
 pub enum Stepped {
     Moved(usize),
     Emptied(usize),
+}
+
+// Why a step is not taken.
+#[derive(Clone, Copy, PartialEq, Eq, Debug)]
+pub enum StepError {
     Finished,
     Waits,
     Stuck(Reason),
@@ -20,20 +24,93 @@ pub enum Stepped {
     NoRoom,
 }
 
-// Of a load: 0 with the length written, 10, 11, 12, 9.
-#[derive(Drop)]
-pub enum Loaded {
-    First(usize),
+impl From<Refusal> for StepError {
+    ghost from_gives = { λ refusal given. given ≡ answers.step_error refusal };
+
+    fn from(refusal: Refusal) -> StepError {
+        match refusal {
+            Refusal::Finished => StepError::Finished,
+            Refusal::Waits => StepError::Waits,
+            Refusal::Stuck(reason) => StepError::Stuck(reason),
+            Refusal::NotLive => StepError::NotLive,
+            Refusal::NoNumber => StepError::NoNumber,
+        }
+    }
+}
+
+// Why a script is not loaded.
+#[derive(Clone, Copy, PartialEq, Eq, Debug)]
+pub enum LoadError {
     NotFormed,
     HoldsHandle,
     NotClosed,
     NoRoom,
 }
 
-// Of a run: 0 with the last image's length, 8, 9.
-#[derive(Drop)]
-pub enum Ran {
-    Last(usize),
+impl From<ScriptError> for LoadError {
+    ghost from_gives = { λ error given. given ≡ answers.load_error error };
+
+    fn from(error: ScriptError) -> LoadError {
+        match error {
+            ScriptError::NotFormed => LoadError::NotFormed,
+            ScriptError::HoldsHandle => LoadError::HoldsHandle,
+            ScriptError::NotClosed => LoadError::NotClosed,
+        }
+    }
+}
+
+// Why a run is refused.
+#[derive(Clone, Copy, PartialEq, Eq, Debug)]
+pub enum RunError {
     NotValid,
     NoRoom,
+}
+
+pub fn stepped_number(answer: Result<Stepped, StepError>) -> u16
+    ensures { result ≡ answers.stepped_number answer }
+{
+    match answer {
+        Ok(Stepped::Moved(_)) => 0,
+        Ok(Stepped::Emptied(_)) => 1,
+        Err(StepError::Finished) => 2,
+        Err(StepError::Waits) => 3,
+        Err(StepError::Stuck(Reason::Shape)) => 4,
+        Err(StepError::Stuck(Reason::Location)) => 5,
+        Err(StepError::NotLive) => 6,
+        Err(StepError::NoNumber) => 7,
+        Err(StepError::NotValid) => 8,
+        Err(StepError::NoRoom) => 9,
+    }
+}
+
+pub fn loaded_number(answer: Result<usize, LoadError>) -> u16
+    ensures { result ≡ answers.loaded_number answer }
+{
+    match answer {
+        Ok(_) => 0,
+        Err(LoadError::NoRoom) => 9,
+        Err(LoadError::NotFormed) => 10,
+        Err(LoadError::HoldsHandle) => 11,
+        Err(LoadError::NotClosed) => 12,
+    }
+}
+
+pub fn ran_number(answer: Result<usize, RunError>) -> u16
+    ensures { result ≡ answers.ran_number answer }
+{
+    match answer {
+        Ok(_) => 0,
+        Err(RunError::NotValid) => 8,
+        Err(RunError::NoRoom) => 9,
+    }
+}
+
+// The length of the image after a step, where it was n before.
+pub fn length_after(answer: Result<Stepped, StepError>, n: usize) -> usize
+    ensures { result ≡ answers.length_after n answer }
+{
+    match answer {
+        Ok(Stepped::Moved(length) | Stepped::Emptied(length)) => length,
+        Err(_) => n,
+    }
 }

@@ -1,57 +1,37 @@
 // Loading a script.
 ghost use Rattle.std.specs.Prelude.{◌≤◌, length};
-ghost use Rattle.engine.specs.Parts.{FirstTold, LoadTold};
+ghost use Rattle.engine.specs.Parts.{FirstTold};
 ghost use Rattle.engine.specs.Promises.{LoadPromise};
 
-use crate::answers::Loaded;
-use crate::buffers::clear;
-use words::closed::closed_end_of;
-use words::names::holds_handle;
-use words::walk::{Walk, is_expression};
-use write::cursor::{copy_part, put_word};
+use crate::answers::LoadError;
+use words::buffers::clear;
+use words::script::check_script;
+use write::cursor::put_words;
 
 // The image of a script's first state into out: one revision, 0, with two empty stores and the script.
-fn write_first(script: &[u16], out: &mut [u16]) -> Loaded
+fn write_first(script: &[u16], out: &mut [u16]) -> Result<usize, LoadError>
     requires { length script.now ≤ 2048 }
     ensures { FirstTold script.now out.old result out.new }
 {
     let n = script.len() + 4;
     if out.len() < n {
-        return Loaded::NoRoom;
+        return Err(LoadError::NoRoom);
     }
     clear(out, 0);
-    put_word(out, 0, 1);
-    copy_part(script, 0, script.len(), out, 4);
-    Loaded::First(n)
-}
-
-// A script's first state, if the words are a script.
-fn load_into(script: &[u16], out: &mut [u16]) -> Loaded
-    ensures { LoadTold script.now out.old result out.new }
-{
-    if 2048 < script.len() {
-        return Loaded::NotFormed;
-    }
-    if !is_expression(script) {
-        return Loaded::NotFormed;
-    }
-    if holds_handle(script) {
-        return Loaded::HoldsHandle;
-    }
-    let Walk::Ends(_) = closed_end_of(script, 0) else {
-        return Loaded::NotClosed;
-    };
-    write_first(script, out)
+    put_words(out, 0, &[1]);
+    put_words(out, 4, script);
+    Ok(n)
 }
 
 // The first state of the script into out, or why there is none.
-pub fn load(script: &[u16], out: &mut [u16], work: &mut [u16]) -> Loaded
+pub fn load(script: &[u16], out: &mut [u16], work: &mut [u16]) -> Result<usize, LoadError>
     ensures { LoadPromise script.now out.old work.old
         result out.new work.new }
 {
     clear(work, 0);
     if work.len() != 8192 {
-        return Loaded::NoRoom;
+        return Err(LoadError::NoRoom);
     }
-    load_into(script, out)
+    check_script(script)?;
+    write_first(script, out)
 }

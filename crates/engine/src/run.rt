@@ -2,52 +2,28 @@
 ghost use Rattle.engine.specs.Parts.{Ready, ReadyFor, Tries, Tried};
 ghost use Rattle.engine.specs.Promises.{RunPromise};
 
-use crate::answers::Ran;
-use crate::buffers::clear;
+use crate::answers::{RunError, StepError, Stepped, length_after, stepped_number};
 use image::valid::is_valid;
 use rules::advance::advance;
-use rules::site::Act;
-use write::cursor::copy_part;
-
-// The number of a pick's answer, and the length of the image after it.
-#[derive(Drop)]
-struct Picked {
-    number: u16,
-    length: usize,
-}
+use rules::site::Moved;
+use words::buffers::clear;
 
 // One pick, on the image in the first n words of the state buffer.
-fn pick(state: &mut [u16], n: usize, r: u16, work: &mut [u16]) -> Picked
+fn pick(state: &mut [u16], n: usize, r: u16, work: &mut [u16]) -> Result<Stepped, StepError>
     requires { Ready state.old n work.old }
     ensures { Tries state.old n r result state.new work.new }
 {
-    let act = advance(&state[..n], r, work);
-    match act {
-        Act::To(m) => {
+    match advance(&state[..n], r, work)? {
+        Moved::To(m) => {
             if work.len() < m {
-                return Picked {
-                    number: 9,
-                    length: n,
-                };
+                return Err(StepError::NoRoom);
             }
-            copy_part(work, 0, m, state, 0);
-            Picked {
-                number: 0,
-                length: m,
-            }
+            state[..m].copy_from_slice(&work[..m]);
+            Ok(Stepped::Moved(m))
         }
-        Act::No(k) => {
-            if k == 1 {
-                state[0] = 0;
-                return Picked {
-                    number: 1,
-                    length: 1,
-                };
-            }
-            Picked {
-                number: k,
-                length: n,
-            }
+        Moved::Emptied => {
+            state[0] = 0;
+            Ok(Stepped::Emptied(1))
         }
     }
 }
@@ -65,12 +41,10 @@ fn try_all(
         state.new result answers.new work.new }
 {
     let mut n = length;
-    let mut i = 0;
-    while i < picks.len() {
-        let p = pick(state, n, picks[i], work);
-        answers[i] = p.number;
-        n = p.length;
-        i += 1;
+    for (i, r) in picks.iter().enumerate() {
+        let answer = pick(state, n, *r, work);
+        answers[i] = stepped_number(answer);
+        n = length_after(answer, n);
     }
     n
 }
@@ -82,27 +56,27 @@ pub fn run(
     picks: &[u16],
     answers: &mut [u16],
     work: &mut [u16],
-) -> Ran
+) -> Result<usize, RunError>
     ensures { RunPromise state.old length picks.now answers.old
         work.old result state.new answers.new work.new }
 {
     if state.len() != 8192 {
-        return Ran::NoRoom;
+        return Err(RunError::NoRoom);
     }
     if work.len() != 8192 {
-        return Ran::NoRoom;
+        return Err(RunError::NoRoom);
     }
     if answers.len() < picks.len() {
-        return Ran::NoRoom;
+        return Err(RunError::NoRoom);
     }
     if 8192 < length {
-        return Ran::NotValid;
+        return Err(RunError::NotValid);
     }
     if !is_valid(&state[..length]) {
-        return Ran::NotValid;
+        return Err(RunError::NotValid);
     }
     let n = try_all(state, length, picks, answers, work);
     clear(state, n);
     clear(work, 0);
-    Ran::Last(n)
+    Ok(n)
 }

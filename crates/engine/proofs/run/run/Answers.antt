@@ -4,6 +4,9 @@ use Rattle.engine.proofs.Running.{run_no_state, run_no_work, run_no_answers, run
 use Rattle.engine.proofs.Running.{run_ready, run_done}
 use Rattle.engine.proofs.run.run.Goals as goal
 
+pub returns : goal.returns
+returns c = search run_done
+
 pub returns-then-state-ne8192 : goal.returns-then-state-ne8192
 returns-then-state-ne8192 c = search run_no_state
 
@@ -29,6 +32,3 @@ try_all-n-requires c =
     c.if-length-gt8192.false
     c.is_valid.ensures
     (search rules)
-
-pub returns : goal.returns
-returns c = search run_done
