@@ -4,7 +4,10 @@ pub mod Left
 pub mod Seeking
 pub mod Sections
 pub mod Around
+pub mod Readers
+pub mod Values
 pub mod Walking
+pub mod Whole
 pub mod Gathering
 pub mod Images
 pub mod Locations

@@ -15,6 +15,7 @@ pub fn smallest_clear(marks: &[bool]) -> Option<u16>
 }
 
 // The number of a new revision: neither live nor mentioned.
+// It and new_location stay two: each is one call of what they share, smallest_clear, over marks of its own.
 pub fn new_revision(s: &[u16]) -> Option<u16>
     ensures { NewRevision s.now result }
 {

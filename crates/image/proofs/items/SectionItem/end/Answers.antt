@@ -1,5 +1,5 @@
 -- Where a section ends: one law for each way through it.
-use Rattle.image.proofs.Walking.{section_snapshot, section_local, section_whole}
+use Rattle.image.proofs.Whole.{section_snapshot, section_local, section_whole}
 use Rattle.image.proofs.items.SectionItem.end.Goals as goal
 
 pub returns-in_err-local : goal.returns-in_err-local
