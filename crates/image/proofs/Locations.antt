@@ -1,11 +1,9 @@
 -- The locations that the stores of an image take.
-use Prim.Native.Nat.{ℕ, ◌≤◌}
+use Prim.Native.Nat.{ℕ}
 use mathlib.Core.Bool.{Bool, true, false}
 use mathlib.Core.List.{List, [], ◌∷◌, append_assoc, append-nil}
-use mathlib.Core.Path.{◌≡◌, refl, sym, ap}
-use native.Mathlib.Omega.{arith}
-use lib.ListN.{length, set, replicate}
-use lib.Seq.{set_out}
+use mathlib.Core.Path.{◌≡◌, refl, ap}
+use lib.ListN.{set, replicate}
 use Rattle.calculus.specs.Maps.{keys}
 use Rattle.calculus.specs.Words.{words}
 use Rattle.calculus.specs.Formed.{Formed}
@@ -17,16 +15,11 @@ use Rattle.words.specs.Marks.{mark_all}
 use Rattle.image.specs.Marks.{locations, in_map, in_section, MarksOf, MarksAt, ImageMarks}
 use Rattle.image.proofs.Images.{image_marks}
 
--- an entry takes its location; one that is past the marks marks nothing
-pub location_set : (l : ℕ) (ws : List ℕ) (m : List Bool)
-    → MarksOf cell_words ValidCell (locations.entry l) ws m (set m l true)
+-- an entry takes its location
+pub location_taken : (l : ℕ) (ws : List ℕ) (m r : List Bool) → r ≡ set m l true
+    → MarksOf cell_words ValidCell (locations.entry l) ws m r
 unfolding mark_all
-location_set l ws m = record { marks = λ c v e. refl }
-
-pub location_out : (l : ℕ) (ws : List ℕ) (m : List Bool) → length m ≡ 256 → 256 ≤ l
-    → MarksOf cell_words ValidCell (locations.entry l) ws m m
-unfolding mark_all
-location_out l ws m long h = record { marks = λ c v e. sym (set_out m l true (omega arith)) }
+location_taken l ws m r e = record { marks = λ c v q. e }
 
 -- a section's number and an expression take none
 pub section_none : (r : ℕ) (m : List Bool) → m ≡ mark_all (locations.section r) m

@@ -1,8 +1,9 @@
 -- The revision numbers that an image takes: its sections', and those that its values and expressions name.
 use Prim.Native.Nat.{ℕ}
-use mathlib.Core.Bool.{Bool}
+use mathlib.Core.Bool.{Bool, true}
 use mathlib.Core.List.{List, [], ◌∷◌, ◌++◌}
 use mathlib.Core.Path.{◌≡◌, refl, sym, ap}
+use lib.ListN.{set}
 use Rattle.calculus.specs.Expressions.{revision}
 use Rattle.calculus.specs.Words.{words}
 use Rattle.calculus.specs.Formed.{Formed}
@@ -11,7 +12,7 @@ use Rattle.calculus.specs.States.{State}
 use Rattle.calculus.specs.Images.{counted, cell_words, task_words, ValidCell, ValidTask, Listed}
 use Rattle.calculus.specs.NewNumbers.{named_in_store, named_in_task, taken_revisions}
 use Rattle.words.specs.declared.in_use.InUse.{InUse}
-use Rattle.words.specs.Marks.{mark_all, Clear, Marked, RevisionsMarked}
+use Rattle.words.specs.Marks.{mark_all, Clear, RevisionsMarked}
 use Rattle.image.specs.Marks.{revisions, in_map, in_section, MarksOf, MarksAt, ImageMarks}
 use Rattle.image.proofs.Images.{image_marks}
 
@@ -24,9 +25,9 @@ value_names l ws u r g = record { marks = go }
     go (plain e) v q = g.marks e q v.0.0
 
 -- a section itself takes its number
-pub number_taken : (k : ℕ) (u r : InUse) → Marked u k r → r.marks ≡ mark_all (revisions.section k) u.marks
+pub number_taken : (k : ℕ) (m r : List Bool) → r ≡ set m k true → r ≡ mark_all (revisions.section k) m
 unfolding mark_all
-number_taken k u r g = g.marks
+number_taken k m r e = e
 
 -- an expression takes what it names
 pub expression_names : (ws : List ℕ) (u r : InUse) → RevisionsMarked ws u r

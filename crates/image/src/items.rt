@@ -8,7 +8,7 @@ ghost use Rattle.image.specs.Cuts.{Past, Seeks};
 ghost use Rattle.image.specs.Matches.{Matched};
 ghost use Rattle.image.specs.Marks.{Taking, in_section, MarksAt};
 
-use crate::marks::{Marks, mark_items};
+use crate::marks::{Taken, mark_items};
 use crate::nodes::past;
 use crate::parts::parts_of;
 use crate::valid::map_end;
@@ -43,7 +43,7 @@ pub trait Item {
         ensures { Matched read s.now at result };
 
     // Sets the marks of the item whose key stands at `at`; where it ends.
-    fn mark<M: Marks>(s: &[u16], at: usize, marks: &mut M) -> usize
+    fn mark<M: Taken>(s: &[u16], at: usize, marks: &mut M) -> usize
         requires { at < length s.now }
         ensures past { Past told_words IsValid s.now (at + 1) result }
         ensures marked { MarksAt told_words IsValid (taken M.taking (get_or s.now at 0)) s.now (at + 1) (M.marks marks.old) (M.marks marks.new) };
@@ -81,7 +81,7 @@ impl Item for Entry {
         closed_end_of(s, at)
     }
 
-    fn mark<M: Marks>(s: &[u16], at: usize, marks: &mut M) -> usize {
+    fn mark<M: Taken>(s: &[u16], at: usize, marks: &mut M) -> usize {
         let end = past(s, at + 1);
         marks.mark_entry(s[at], &s[at + 1..end]);
         end
@@ -116,7 +116,7 @@ impl Item for Section {
         closed_end_of(s, expression)
     }
 
-    fn mark<M: Marks>(s: &[u16], at: usize, marks: &mut M) -> usize {
+    fn mark<M: Taken>(s: &[u16], at: usize, marks: &mut M) -> usize {
         let parts = parts_of(s, at + 1);
         marks.mark_section(s[at]);
         mark_items::<Entry, M>(s, at + 1, marks);

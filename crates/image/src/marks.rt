@@ -1,5 +1,5 @@
 // The numbers that an image takes, as marks: one walk over the items of its maps.
-ghost use Rattle.std.specs.Prelude.{◌≡◌, ◌≤◌, List, Bool, length};
+ghost use Rattle.std.specs.Prelude.{◌≡◌, ◌≤◌, length};
 ghost use Rattle.calculus.specs.Images.{cell_words, ValidCell, counted, Listed};
 ghost use Rattle.calculus.specs.Words.{words};
 ghost use Rattle.calculus.specs.Formed.{Formed};
@@ -7,29 +7,28 @@ ghost use Rattle.words.specs.Marks.{mark_all};
 ghost use Rattle.image.specs.Marks.{Taking, in_map, MarksOf, MarksAt};
 
 use crate::items::Item;
+use words::names::Marks;
 use words::reading::word_at;
 
 // Marks of the numbers that are taken.
-pub trait Marks {
+pub trait Taken: Marks {
     ghost taking: { Taking };
-
-    ghost marks: { Self → List Bool };
 
     // Sets those of an entry of a store: its location, and the words of its value.
     fn mark_entry(&mut self, location: u16, value: &[u16])
-        ensures { MarksOf cell_words ValidCell (taking.entry location) value.now (marks self.old) (marks self.new) };
+        ensures { MarksOf cell_words ValidCell (taking.entry location) value.now (Self.marks self.old) (Self.marks self.new) };
 
     // Sets those of the number of a section.
     fn mark_section(&mut self, number: u16)
-        ensures { marks self.new ≡ mark_all (taking.section number) (marks self.old) };
+        ensures { Self.marks self.new ≡ mark_all (taking.section number) (Self.marks self.old) };
 
     // Sets those of the words of an expression.
     fn mark_expression(&mut self, expression: &[u16])
-        ensures { MarksOf words Formed taking.expression expression.now (marks self.old) (marks self.new) };
+        ensures { MarksOf words Formed taking.expression expression.now (Self.marks self.old) (Self.marks self.new) };
 }
 
 // Sets the marks of the items whose count stands at `at`.
-pub fn mark_items<I: Item, M: Marks>(s: &[u16], at: usize, marks: &mut M)
+pub fn mark_items<I: Item, M: Taken>(s: &[u16], at: usize, marks: &mut M)
     requires { at ≤ length s.now }
     ensures { MarksAt (counted I.told_words) (Listed I.IsValid I.LARGEST 0) (in_map (I.taken M.taking))
         s.now at (M.marks marks.old) (M.marks marks.new) }

@@ -3,17 +3,14 @@ ghost use Rattle.calculus.specs.NewNumbers.{taken_locations};
 ghost use Rattle.image.specs.Marks.{locations, ImageMarks};
 
 use crate::items::Section;
-use crate::marks::{Marks, mark_items};
+use crate::marks::{Taken, mark_items};
+use words::names::Marks;
 
-impl Marks for [bool; 256] {
+impl Taken for [bool; 256] {
     ghost taking = { locations };
 
-    ghost marks = { λ m. m };
-
     fn mark_entry(&mut self, location: u16, _value: &[u16]) {
-        if location < 256 {
-            self[location as usize] = true;
-        }
+        self.mark(location);
     }
 
     fn mark_section(&mut self, _number: u16) {}

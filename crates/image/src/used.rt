@@ -3,20 +3,18 @@ ghost use Rattle.calculus.specs.NewNumbers.{taken_revisions};
 ghost use Rattle.image.specs.Marks.{revisions, ImageMarks};
 
 use crate::items::Section;
-use crate::marks::{Marks, mark_items};
-use words::names::InUse;
+use crate::marks::{Taken, mark_items};
+use words::names::{InUse, Marks};
 
-impl Marks for InUse {
+impl Taken for InUse {
     ghost taking = { revisions };
-
-    ghost marks = { λ used. used.marks };
 
     fn mark_entry(&mut self, _location: u16, value: &[u16]) {
         *self = self.with_names(value);
     }
 
     fn mark_section(&mut self, number: u16) {
-        *self = self.with(number);
+        self.mark(number);
     }
 
     fn mark_expression(&mut self, expression: &[u16]) {
