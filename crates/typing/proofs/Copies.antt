@@ -20,9 +20,6 @@ pub record Copied (v o₀ : List ℕ) (to : ℕ) (o : List ℕ) (i : ℕ) : Type
   pub done : o ≡ sets o₀ to (take i v)
 
 module _ (v o₀ : List ℕ) (to : ℕ) where
-  pub copy_start : Copied v o₀ to o₀ 0
-  copy_start = record { low = omega arith; room = refl; done = refl }
-
   pub copy_turn : (o o' : List ℕ) (i : ℕ) → i < length v → o' ≡ set o (to + i) (get_or v i 0) → Copied v o₀ to o i
       → Copied v o₀ to o' (i + 1)
   copy_turn o o' i h e c =

@@ -17,6 +17,7 @@ use Rattle.words.specs.declared.tags.TypeTag.TheVariants.{Rev as RevTag, Referen
 use Rattle.words.specs.declared.tags.TypeTag.TheVariants.{Function as FunctionTag}
 use Rattle.std.proofs.lemmas.Slice.Eq.{slice_eq-Decides}
 use Rattle.std.proofs.lemmas.Bool.Decides.{Decides-eqb}
+use Rattle.std.proofs.lemmas.Option.{none-some, same_Some}
 use Rattle.typing.specs.declared.types.Head.{Head}
 use Rattle.typing.specs.declared.types.Head.TheVariants.{Unit as UnitHead, Bool as BoolHead, Number, Rev, Reference}
 use Rattle.typing.specs.declared.types.Head.TheVariants.{Function}
@@ -25,7 +26,7 @@ use Rattle.words.specs.Tags.{type_word_of}
 use Rattle.calculus.specs.Tags.{type_tag_word, basic_tag}
 use Rattle.calculus.specs.Types.{basic, Basic, unit_type, bool_type, num_type, rev_type, ScriptType, reference, function}
 use Rattle.calculus.specs.Words.{type_words}
-use Rattle.typing.specs.Held.{HeadIs, Alike, SameHeads, Named, Means, SameTypes, Headed, basic_head, tag_of, rest_of}
+use Rattle.typing.specs.Held.{HeadIs, Alike, SameHeads, Named, Means, SameTypes, Headed, basic_head, head_tag, head_rest}
 use Rattle.typing.proofs.Ends.{basic_36, wide}
 
 pub no_way : {C : Type 0} → false ≡ true → C
@@ -77,7 +78,7 @@ words_inj A B e = (unique A B [] [] (ap (λ (l : List ℕ). l ++ []) e)).0
 
 -- heads
 abbrev pub head_word : Head → ℕ
-head_word h = type_word_of (tag_of h)
+head_word h = type_word_of (head_tag h)
 
 pub basic_head_word : (b : Basic) → head_word (basic_head b) ≡ type_tag_word (basic_tag b)
 basic_head_word unit_type = refl
@@ -85,17 +86,11 @@ basic_head_word bool_type = refl
 basic_head_word num_type = refl
 basic_head_word rev_type = refl
 
-pub some_none : {A : Type 0} {a : A} → Some a ≡ None → ⊥
-some_none e = cc
-
-pub some_head : {a b : Head} → Some a ≡ Some b → a ≡ b
-some_head e = cc
-
 pub head_first : (s t : List ℕ) (i j : ℕ) (A : ScriptType) (r : Head) → HeadIs s t i j A (Some r) → head_word r ≡ first A
 unfolding HeadIs
-head_first s t i j (basic b) r h = ap head_word (some_head h) ∙ basic_head_word b
-head_first s t i j (reference A) r h = ap head_word (some_head h.1)
-head_first s t i j (function A B) r h = ap head_word (some_head h.2)
+head_first s t i j (basic b) r h = ap head_word (same_Some _ _ h) ∙ basic_head_word b
+head_first s t i j (reference A) r h = ap head_word (same_Some _ _ h.1)
+head_first s t i j (function A B) r h = ap head_word (same_Some _ _ h.2)
 
 alike_first : (A B : ScriptType) → Alike A B → first A ≡ first B
 unfolding Alike
@@ -148,7 +143,7 @@ same_type_tag : (g h : TypeTag) → type_word_of g ≡ type_word_of h → g ≡ 
 same_type_tag g h e = sym (word_tag_is g) ∙ ap word_tag e ∙ word_tag_is h
 
 -- the first is no function's
-pub heads_plain : (s : List ℕ) (a b : Head) (g h : TypeTag) (r : Bool) → g ≡ tag_of a → h ≡ tag_of b
+pub heads_plain : (s : List ℕ) (a b : Head) (g h : TypeTag) (r : Bool) → g ≡ head_tag a → h ≡ head_tag b
     → ((m n : ℕ) → a ≡ Function m n → ⊥) → r ≡ sameb the_type g h → SameHeads s a b r
 heads_plain s a b g h r u v n d = record {
   is = λ t i j A B x y.
@@ -159,7 +154,7 @@ heads_plain s a b g h r u v n d = record {
             let z : head_word a ≡ head_word b = ap type_word_of (sym u ∙ w ∙ v) in
             first_alike A B (sym p ∙ z ∙ q) (λ l. no_function a n (p ∙ l)),
         λ k.
-            let w : tag_of a ≡ tag_of b = same_type_tag (tag_of a) (tag_of b) (p ∙ alike_first A B k ∙ sym q) in
+            let w : head_tag a ≡ head_tag b = same_type_tag (head_tag a) (head_tag b) (p ∙ alike_first A B k ∙ sym q) in
             d ∙ true_same the_type g h (u ∙ w ∙ sym v),
       );
 }
@@ -189,8 +184,8 @@ heads_function_case s t i j (function A C) (basic x) p m q n u v r e f d h k =
 heads_function_case s t i j (function A C) (reference B) p m q n u v r e f d h k =
     absurd (let y = head_first s t i j (reference B) (Function q n) k in omega arith)
 heads_function_case s t i j (function A C) (function B D) p m q n u v r e f d h k =
-    let x : u ≡ type_words A = e.is A (rw (function_argument (some_head h.2)) h.3) in
-    let y : v ≡ type_words B = f.is B (rw (function_argument (some_head k.2)) k.3) in (
+    let x : u ≡ type_words A = e.is A (rw (function_argument (same_Some _ _ h.2)) h.3) in
+    let y : v ≡ type_words B = f.is B (rw (function_argument (same_Some _ _ k.2)) k.3) in (
       λ z. words_inj A B (sym x ∙ d.0 z ∙ y),
       λ z. d.1 (x ∙ ap type_words z ∙ sym y),
     )
@@ -219,13 +214,6 @@ pub record SameSo (s t : List ℕ) (p₀ q₀ p q done : ℕ) : Type 0 where
   pub is : (i j : ℕ) (A B : ScriptType) → Means s t i j p₀ A → Means s t i j q₀ B → length (type_words A) ≤ 4096
       → Left s t i j A B p q done
 
-pub same_start : (s t : List ℕ) (p q : ℕ) → SameSo s t p q p q 0
-same_start s t p q =
-    record {
-      is = λ i j A B m n h. record
-          { one = A; two = B; at_one = m; at_two = n; small = omega arith; down = λ e. e; up = λ e. e };
-    }
-
 alike_refl : (A : ScriptType) → Alike A A
 unfolding Alike
 alike_refl (basic b) = refl
@@ -249,26 +237,23 @@ reference_inj e = cc
 function_inj : {A B C D : ScriptType} → function A C ≡ function B D → C ≡ D
 function_inj e = cc
 
-pub some_place : {m n : ℕ} → Some m ≡ Some n → m ≡ n
-some_place e = cc
-
-pub no_rest : (b : Basic) {n : ℕ} → rest_of (basic_head b) ≡ Some n → ⊥
+pub no_rest : (b : Basic) {n : ℕ} → head_rest (basic_head b) ≡ Some n → ⊥
 no_rest unit_type e = cc
 no_rest bool_type e = cc
 no_rest num_type e = cc
 no_rest rev_type e = cc
 
-left_turn : (s t : List ℕ) (i j : ℕ) (A B C D : ScriptType) (a b : Head) (p q n : ℕ) → rest_of a ≡ Some p
-    → rest_of b ≡ Some q → HeadIs s t i j C (Some a) → HeadIs s t i j D (Some b) → Alike C D
+left_turn : (s t : List ℕ) (i j : ℕ) (A B C D : ScriptType) (a b : Head) (p q n : ℕ) → head_rest a ≡ Some p
+    → head_rest b ≡ Some q → HeadIs s t i j C (Some a) → HeadIs s t i j D (Some b) → Alike C D
     → length (type_words C) + n ≤ 4096 → (A ≡ B → C ≡ D) → (C ≡ D → A ≡ B) → Left s t i j A B p q (n + 1)
 unfolding HeadIs Alike type_words
-left_turn s t i j A B (basic x) D a b p q n v w h k l z d u = absurd (no_rest x (sym (ap rest_of (some_head h)) ∙ v))
+left_turn s t i j A B (basic x) D a b p q n v w h k l z d u = absurd (no_rest x (sym (ap head_rest (same_Some _ _ h)) ∙ v))
 left_turn s t i j A B (reference C) (basic y) a b p q n v w h k l z d u = absurd l
 left_turn s t i j A B (reference C) (reference D) a b p q n v w h k l z d u = record {
   one = C;
   two = D;
-  at_one = rw (some_place (sym v ∙ ap rest_of (some_head h.1))) h.2;
-  at_two = rw (some_place (sym w ∙ ap rest_of (some_head k.1))) k.2;
+  at_one = rw (same_Some _ _ (sym v ∙ ap head_rest (same_Some _ _ h.1))) h.2;
+  at_two = rw (same_Some _ _ (sym w ∙ ap head_rest (same_Some _ _ k.1))) k.2;
   small = omega arith;
   down = λ e. reference_inj (d e);
   up = λ e. u (ap reference e);
@@ -279,8 +264,8 @@ left_turn s t i j A B (function C E) (reference D) a b p q n v w h k l z d u = a
 left_turn s t i j A B (function C E) (function D F) a b p q n v w h k l z d u = record {
   one = E;
   two = F;
-  at_one = rw (some_place (sym v ∙ ap rest_of (some_head h.2))) h.4;
-  at_two = rw (some_place (sym w ∙ ap rest_of (some_head k.2))) k.4;
+  at_one = rw (same_Some _ _ (sym v ∙ ap head_rest (same_Some _ _ h.2))) h.4;
+  at_two = rw (same_Some _ _ (sym w ∙ ap head_rest (same_Some _ _ k.2))) k.4;
   small = omega (arith, length-append (type_words C) (type_words E));
   down = λ e. function_inj (d e);
   up = λ e. u (ap₂ function l e);
@@ -289,17 +274,17 @@ left_turn s t i j A B (function C E) (function D F) a b p q n v w h k l z d u = 
 -- a position that stands for a type has a head
 pub is_head : (s t : List ℕ) (i j : ℕ) (A : ScriptType) (h : Option Head) → HeadIs s t i j A h → h ≡ None → ⊥
 unfolding HeadIs
-is_head s t i j (basic b) h k e = some_none (sym k ∙ e)
-is_head s t i j (reference A) h k e = some_none (sym k.1 ∙ e)
-is_head s t i j (function A B) h k e = some_none (sym k.2 ∙ e)
+is_head s t i j (basic b) h k e = none-some _ (sym e ∙ k)
+is_head s t i j (reference A) h k e = none-some _ (sym e ∙ k.1)
+is_head s t i j (function A B) h k e = none-some _ (sym e ∙ k.2)
 
 -- a head with no rest is a basic type's
-last_head : (s t : List ℕ) (i j : ℕ) (A : ScriptType) (a : Head) → HeadIs s t i j A (Some a) → rest_of a ≡ None
+last_head : (s t : List ℕ) (i j : ℕ) (A : ScriptType) (a : Head) → HeadIs s t i j A (Some a) → head_rest a ≡ None
     → first A < 36
 unfolding HeadIs
 last_head s t i j (basic b) a k e = basic_36 b
-last_head s t i j (reference A) a k e = absurd (some_none (sym (ap rest_of (some_head k.1)) ∙ e))
-last_head s t i j (function A B) a k e = absurd (some_none (sym (ap rest_of (some_head k.2)) ∙ e))
+last_head s t i j (reference A) a k e = absurd (none-some _ (sym e ∙ ap head_rest (same_Some _ _ k.1)))
+last_head s t i j (function A B) a k e = absurd (none-some _ (sym e ∙ ap head_rest (same_Some _ _ k.2)))
 
 module _ (s t : List ℕ) (p₀ q₀ p q n : ℕ) (c : SameSo s t p₀ q₀ p q n) where
   pub same_none : 4096 ≤ n → SameTypes s t p₀ q₀ false
@@ -342,7 +327,7 @@ module _ (s t : List ℕ) (p₀ q₀ p q n : ℕ) (c : SameSo s t p₀ q₀ p q 
     }
 
     -- a head with no rest: the last
-    pub same_done : r ≡ true → None ≡ rest_of a → SameTypes s t p₀ q₀ true
+    pub same_done : r ≡ true → None ≡ head_rest a → SameTypes s t p₀ q₀ true
     same_done z w = record {
       is = λ i j A B m k h.
           let l = c.is i j A B m k h in
@@ -350,7 +335,7 @@ module _ (s t : List ℕ) (p₀ q₀ p q n : ℕ) (c : SameSo s t p₀ q₀ p q 
           always (l.up (alike_basic l.one l.two (last_head s t i j l.one a (head_one i j l.one l.at_one) (sym w)) o));
     }
 
-    pub done_same : r ≡ true → None ≡ rest_of b → SameTypes s t p₀ q₀ true
+    pub done_same : r ≡ true → None ≡ head_rest b → SameTypes s t p₀ q₀ true
     done_same z w = record {
       is = λ i j A B m k h.
           let l = c.is i j A B m k h in
@@ -359,7 +344,7 @@ module _ (s t : List ℕ) (p₀ q₀ p q n : ℕ) (c : SameSo s t p₀ q₀ p q 
           always (l.up (alike_basic l.one l.two (rw (alike_first l.one l.two o) e) o));
     }
 
-    pub same_turn : (p' q' : ℕ) → r ≡ true → Some p' ≡ rest_of a → Some q' ≡ rest_of b
+    pub same_turn : (p' q' : ℕ) → r ≡ true → Some p' ≡ head_rest a → Some q' ≡ head_rest b
         → SameSo s t p₀ q₀ p' q' (n + 1)
     same_turn p' q' z w o = record {
       is = λ i j A B m k h.

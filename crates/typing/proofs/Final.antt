@@ -1,5 +1,5 @@
 -- The answer to a script: the type written out, and each way through the check.
-use Prim.Native.Nat.{◌-◌, ℕ, ◌+◌, ◌<◌, ◌≤◌}
+use Prim.Native.Nat.{◌-◌, ℕ, ◌+◌, ◌≤◌}
 use mathlib.Core.Bool.{true, Bool, false}
 use mathlib.Core.List.{List, [], ◌∷◌, ◌++◌, append-nil}
 use mathlib.Core.Option.{some}
@@ -8,10 +8,10 @@ use native.Mathlib.Omega.{arith}
 use lib.Dec.{ltb, leb}
 use lib.ListN.{length, take, replicate, drop, length-replicate, get_or, get_or-replicate}
 use lib.Seq.{sets, sets-eq, take_at, length-sets}
-use borrow.Author.Tests.{lt-ltb, leb-true, leb-false, le-ltb, lt-leb, le-leb, ne_eqb, eq-eqb}
+use borrow.Author.Tests.{leb-true, leb-false, le-ltb, lt-leb, le-leb, ne_eqb, eq-eqb}
 use Rattle.std.specs.Prelude.{Ok, Err, IsErr, IsErrAnd}
 use Rattle.typing.specs.declared.CheckError.{CheckError}
-use Rattle.typing.specs.declared.CheckError.TheVariants.{LongType, NoRoom, NoType}
+use Rattle.typing.specs.declared.CheckError.TheVariants.{NoRoom, NoType}
 use Rattle.words.specs.declared.script.ScriptError.{ScriptError}
 use Rattle.words.specs.declared.script.ScriptError.TheVariants.{NotFormed, HoldsHandle, NotClosed}
 use Rattle.words.specs.Scripts.{script_number}
@@ -22,7 +22,7 @@ use Rattle.calculus.specs.Types.{ScriptType}
 use Rattle.calculus.specs.Typing.{nothing}
 use Rattle.calculus.specs.Words.{words, type_words}
 use Rattle.typing.specs.Answering.{PutType, Answered, Gives}
-use Rattle.typing.specs.Checks.{CheckPromise, Checked, error_number, of_script}
+use Rattle.typing.specs.Checks.{Checked, error_number, of_script}
 use Rattle.typing.specs.Held.{Means, Small}
 use Rattle.typing.specs.Inferring.{Infers, Stands}
 use Rattle.typing.specs.Rulings.{Noted, Inferred, typed}
@@ -44,22 +44,6 @@ module _ (s t : List ℕ) (p : ℕ) (o pt part : List ℕ) (n : ℕ) (z : length
   same : pt ++ o ≡ o
   same = ap (λ (l : List ℕ). l ++ o) (none_of pt z)
 
-  pub put_long : 4096 < n → PutType s t p o (Err LongType) (pt ++ o)
-  put_long h = record {
-    gives = λ i j A m.
-        let k : ltb 4096 (length (type_words A)) ≡ true =
-        lt-ltb 4096 (length (type_words A)) (long i j A m (leb (length (type_words A)) 4096) refl)
-        in
-        record { number = rw k refl; size = rw k refl; written = same ∙ rw k refl };
-  }
-    where
-      long : (i j : ℕ) (A : ScriptType) → Means s t i j p A → (b : Bool) → leb (length (type_words A)) 4096 ≡ b
-          → 4096 < length (type_words A)
-      long i j A m true q =
-          let k = leb-true (length (type_words A)) 4096 q in
-          absurd (omega (arith, w.end i j A m k))
-      long i j A m false q = leb-false (length (type_words A)) 4096 q
-
   module _ (h : n ≤ 4096) where
     -- then it is not long, and n is its length
     small : (i j : ℕ) (A : ScriptType) → Means s t i j p A → Small A
@@ -76,16 +60,6 @@ module _ (s t : List ℕ) (p : ℕ) (o pt part : List ℕ) (n : ℕ) (z : length
 
     count : (i j : ℕ) (A : ScriptType) → Means s t i j p A → n ≡ length (type_words A)
     count i j A m = w.end i j A m (small i j A m)
-
-    pub put_no_room : length (pt ++ o) < n → PutType s t p o (Err NoRoom) (pt ++ o)
-    put_no_room u = record {
-      gives = λ i j A m.
-          let k = not_long i j A m in
-          let l : leb (length (type_words A)) (length o) ≡ false =
-          lt-leb (length (type_words A)) (length o) (omega (arith, count i j A m, ap length same))
-          in
-          record { number = rw (k, l) refl; size = rw (k, l) refl; written = same ∙ rw (k, l) refl };
-    }
 
     pub put_done : (o₂ o₃ : List ℕ) (n₂ : ℕ) → n ≤ length (pt ++ o) → WroteType s t p (pt ++ o) n₂ o₂
         → Cleared o₂ n o₃ → PutType s t p o (Ok n) o₃
@@ -206,14 +180,3 @@ module _ (ws o t : List ℕ) where
 -- a script has at most 2,048 words
 pub script_few : (ws : List ℕ) (e : Expression) → script_of ws ≡ script e → length ws ≤ 2048
 script_few ws e q = (scripted ws e q).few
-
-pub promised : (ws o t t₁ t₂ : List ℕ) (r : Checked) (o' : List ℕ) → length t₁ ≡ length t → Answered ws o t r o'
-    → Cleared t₁ 0 t₂ → CheckPromise ws o t r o' t₂
-promised ws o t t₁ t₂ r o' l g e =
-    let z : length t₁ - 0 ≡ length t = omega arith in
-    record {
-      number = g.gives.number;
-      size = g.gives.size;
-      written = g.gives.written;
-      cleared = e.zeros ∙ ap (λ (m : ℕ). replicate m 0) z;
-    }

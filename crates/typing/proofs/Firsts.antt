@@ -17,6 +17,8 @@ use Rattle.calculus.specs.Tags.{tag_word, one_tag, two_tag}
 use Rattle.calculus.specs.Types.{ScriptType}
 use Rattle.calculus.specs.Typing.{Assignment, bind}
 use Rattle.calculus.specs.Words.{words, type_words}
+use Rattle.std.specs.Prelude.{Option, Some}
+use Rattle.std.proofs.lemmas.Option.{same_Some}
 use Rattle.typing.specs.Held.{Written}
 use Rattle.typing.specs.Inferring.{words_all, FormedAll, Stands, Infers, First, Keeps}
 use Rattle.typing.specs.Rulings.{Inferred, typed, Enters, entered, ended, Noted}
@@ -32,13 +34,13 @@ pub record Branch (e : Expression) (w : ℕ) (a : Expression) (es : List Express
   pub first : Formed e → Formed a
   pub others : Formed e → FormedAll es
 
-one_tag_lem : (o : One) → tag_word (one_tag o) ≡ 7 → ⊥
+pub one_tag_lem : (o : One) → tag_word (one_tag o) ≡ 7 → ⊥
 one_tag_lem ref z = omega arith
 one_tag_lem read z = omega arith
 one_tag_lem fork z = omega arith
 one_tag_lem join z = omega arith
 
-two_tag_lem : (o : Two) → tag_word (two_tag o) ≡ 7 → ⊥
+pub two_tag_lem : (o : Two) → tag_word (two_tag o) ≡ 7 → ⊥
 two_tag_lem apply z = omega arith
 two_tag_lem assign z = omega arith
 two_tag_lem (arithmetic add) z = omega arith
@@ -69,7 +71,34 @@ branch_if a b c =
 still : (t t' : List ℕ) (i v k : ℕ) → t' ≡ set t i v → k ≢ i → get_or t' k 0 ≡ get_or t k 0
 still t t' i v k e h = ap (λ (l : List ℕ). get_or l k 0) e ∙ get_or-set_other t i k v 0 h
 
-module _ (s t t₁ : List ℕ) (at p left : ℕ) (h : length s ≤ 2048) (n : Enters s at t p t₁) where
+-- a node that is entered: its first child starts at p
+pub record Entered (s : List ℕ) (at : ℕ) (t : List ℕ) (p : ℕ) (t' : List ℕ) : Type 0 where
+  pub first : (get_or s at 0 ≡ 7 → ⊥) → p ≡ at + 1
+  pub body : (A : ScriptType) → get_or s at 0 ≡ 7 → Written s (at + 2) A → p ≡ at + 2 + length (type_words A)
+  pub table : t' ≡ entered s at t
+
+pub entered_at : (s t t' : List ℕ) (at p : ℕ) (r : Option ℕ) → Enters s at t r t' → r ≡ Some p → Entered s at t p t'
+entered_at s t t' at p r n e = record {
+  first = λ z. same_Some _ _ (sym e ∙ n.first z);
+  body = λ A z w. same_Some _ _ (sym e ∙ n.body A z w);
+  table = n.table p e;
+}
+
+-- the annotation of a lambda
+pub annotation_at : (s t : List ℕ) (at left x : ℕ) (A : ScriptType) (e : Expression) (Γ : Assignment)
+    (d : Stands s t at left (lambda x A e) Γ)
+    → (get_or s at 0 ≡ 7) × (drop (at + 2) s ≡ type_words A ++ (words e ++ d.rest))
+unfolding words
+annotation_at s t at left x A e Γ d =
+    let f = front s at 7 _ d.is in
+    let g = front s (at + 1) x _ f.next in
+    let two : at + 1 + 1 ≡ at + 2 = omega arith in
+    let w : drop (at + 2) s ≡ type_words A ++ (words e ++ d.rest) =
+    subst (λ (k : ℕ). drop k s ≡ (type_words A ++ words e) ++ d.rest) two g.next
+    ∙ append_assoc (type_words A) (words e) d.rest
+    in (f.tag, w)
+
+module _ (s t t₁ : List ℕ) (at p left : ℕ) (h : length s ≤ 2048) (n : Entered s at t p t₁) where
   -- no lambda
   module _ (e : Expression) (w : ℕ) (a : Expression) (es : List Expression) (Γ : Assignment) (b : Branch e w a es)
       (d : Stands s t at left e Γ) where
@@ -154,11 +183,7 @@ module _ (s t t₁ : List ℕ) (at p left : ℕ) (h : length s ≤ 2048) (n : En
     lambda_at =
         let f = front s at 7 _ d.is in
         let g = front s (at + 1) x _ f.next in
-        let two : at + 1 + 1 ≡ at + 2 = omega arith in
-        let w : drop (at + 2) s ≡ type_words A ++ (words e ++ d.rest) =
-        subst (λ (k : ℕ). drop k s ≡ (type_words A ++ words e) ++ d.rest) two g.next
-        ∙ append_assoc (type_words A) (words e) d.rest
-        in
+        let w = (annotation_at s t at left x A e Γ d).1 in
         let v : Written s (at + 2) A = record { rest = words e ++ d.rest; is = w } in
         let q = n.body A f.tag v in
         let l = written_in s (at + 2) A v in

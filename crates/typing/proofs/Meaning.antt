@@ -181,6 +181,9 @@ module _ (ws : List ℕ) (p w : ℕ) (e : w ≡ get_or ws 0 0) where
     pub in_broken : (r : Option Head) → g ≡ FunctionTag → None ≡ walk_of (type_end ws 1) → HeadIn ws p r
     in_broken r z = broken_in r (word FunctionTag z)
 
+-- one law for each first word of a type
+pub ruleset first_words = (in_unit, in_bool, in_number, in_rev, in_reference, in_function, in_broken, in_nothing)
+
 -- the basic type of a node, by its tag
 pub unit_tags : (g : Tag) → (g ≡ UnitNode) ⊎ ((g ≡ Assign) ⊎ (g ≡ Join)) → Some UnitHead ≡ head_if (basic_of (word_of g))
 unfolding basic_of
@@ -227,6 +230,8 @@ other_tags Join a b c d e f h i j k = absurd (h refl)
 other_tags Add a b c d e f h i j k = absurd (i refl)
 other_tags Subtract a b c d e f h i j k = absurd (j refl)
 other_tags Less a b c d e f h i j k = absurd (k refl)
+
+pub ruleset basic_tags = (unit_tags, bool_tags, number_tags, rev_tag, other_tags)
 
 -- a head, by the tag
 module _ (s t : List ℕ) (p w : ℕ) (e : w ≡ get_or s p 0) where

@@ -9,7 +9,8 @@ use native.Mathlib.Omega.{arith}
 use lib.ListN.{get_or, length, set, length-set}
 use lib.Seq.{get_or-set_other, get_or-set_same}
 use borrow.Author.Tests.{ne_eqb, eq-eqb}
-use Rattle.std.specs.Prelude.{Some, None, Err}
+use Rattle.std.specs.Prelude.{Option, Some, None, Err}
+use Rattle.std.proofs.lemmas.Option.{none-some}
 use Rattle.words.specs.declared.tags.Tag.{Tag}
 use Rattle.words.specs.declared.tags.Tag.TheVariants.{Unit as UnitTag, False, True, Number, Variable, Lambda}
 use Rattle.words.specs.Tags.{word_of}
@@ -142,12 +143,21 @@ module _ (s t : List ℕ) (at : ℕ) (w : Tag) (q : word_of w ≡ get_or s at 0)
   a_lambda : w ≡ Lambda → get_or s at 0 ≡ 7
   a_lambda h = sym q ∙ ap word_of h
 
-  pub enter_other : (w ≡ Lambda → ⊥) → Enters s at t (at + 1) t
+  pub enter_other : (w ≡ Lambda → ⊥) → Enters s at t (Some (at + 1)) t
   unfolding entered
   enter_other h = record {
+    room = refl;
     first = λ z. refl;
     body = λ A z. absurd (no_lambda h z);
-    table = simp (ne_eqb (get_or s at 0) 7 (no_lambda h));
+    table = λ p e. simp (ne_eqb (get_or s at 0) 7 (no_lambda h));
+  }
+
+  pub enter_broken : (r : Option ℕ) → w ≡ Lambda → None ≡ walk_of (type_end s (at + 2)) → r ≡ None → Enters s at t r t
+  enter_broken r h e z = record {
+    room = refl;
+    first = λ k. absurd (k (a_lambda h));
+    body = λ A k u. absurd (ends_nowhere s (at + 2) e A u);
+    table = λ p k. absurd (none-some p (sym z ∙ k));
   }
 
   module _ (h : w ≡ Lambda) (x old : ℕ) (t₁ t₂ : List ℕ) (a : x ≡ get_or s (at + 1) 0)
@@ -156,18 +166,12 @@ module _ (s t : List ℕ) (at : ℕ) (w : Tag) (q : word_of w ≡ get_or s at 0)
     unfolding entered
     noted_table = d ∙ rw (c, b, a, eq-eqb (get_or s at 0) 7 (a_lambda h))
 
-    pub enter_lambda : (r : ℕ) → Some r ≡ walk_of (type_end s (at + 2)) → Enters s at t r t₂
+    pub enter_lambda : (r : ℕ) → Some r ≡ walk_of (type_end s (at + 2)) → Enters s at t (Some r) t₂
     enter_lambda r e = record {
+      room = ap length d ∙ length-set t₁ (2048 + x) (at + 2) ∙ ap length c ∙ length-set t (at + 1) old;
       first = λ z. absurd (z (a_lambda h));
-      body = λ A z u. ends_of s (at + 2) r e A u;
-      table = noted_table;
-    }
-
-    pub enter_broken : None ≡ walk_of (type_end s (at + 2)) → Enters s at t at t₂
-    enter_broken e = record {
-      first = λ z. absurd (z (a_lambda h));
-      body = λ A z u. absurd (ends_nowhere s (at + 2) e A u);
-      table = noted_table;
+      body = λ A z u. ap (λ (n : ℕ). Some n) (ends_of s (at + 2) r e A u);
+      table = λ p z. noted_table;
     }
 
   pub leave_lambda : w ≡ Lambda → (a x old : ℕ) (t₁ t₂ : List ℕ) → x ≡ get_or s (at + 1) 0 → old ≡ get_or t (at + 1) 0

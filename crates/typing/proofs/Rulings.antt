@@ -9,6 +9,7 @@ use native.Mathlib.Omega.{arith}
 use lib.ListN.{get_or, length, length-append}
 use Rattle.typing.specs.declared.rules.Ask.{Ask}
 use Rattle.std.specs.Prelude.{Option, Some, None, Err}
+use Rattle.std.proofs.lemmas.Option.{none-some, same_Some}
 use Rattle.typing.specs.declared.CheckError.TheVariants.{NoType}
 use Rattle.words.specs.declared.tags.Tag.{Tag}
 use Rattle.words.specs.declared.tags.Tag.TheVariants.{Lambda, Apply, Read, Assign, Fork, Join}
@@ -27,7 +28,7 @@ use Rattle.calculus.specs.Words.{type_words}
 use Rattle.typing.specs.Held.{Means, basic_of, basic_head, HeadIs, Written, Headed, SameTypes}
 use Rattle.typing.specs.Rulings.{Answers, Inferred, typed, RuleOne, opens, Opens, Asks, RuleTwo, RuleThree}
 use Rattle.calculus.proofs.TypingRules.{equal_same}
-use Rattle.typing.proofs.Equality.{basic_inj, is_head, function_argument, no_way, some_head, some_none, head_word, basic_head_word}
+use Rattle.typing.proofs.Equality.{basic_inj, is_head, function_argument, no_way, head_word, basic_head_word}
 use Rattle.typing.proofs.Meaning.{written}
 use Rattle.typing.proofs.TagWords.{same_tag}
 
@@ -79,9 +80,6 @@ reference_place e = cc
 function_place : {m n k l : ℕ} → Function m n ≡ Function k l → n ≡ l
 function_place e = cc
 
-some_ask : {a b : Ask} → Some a ≡ Some b → a ≡ b
-some_ask e = cc
-
 basic_head_inj : (b c : Basic) → basic_head b ≡ basic_head c → b ≡ c
 basic_head_inj b c e = basic_inj b c (sym (basic_head_word b) ∙ ap head_word e ∙ basic_head_word c)
 
@@ -89,43 +87,43 @@ module _ (s t : List ℕ) (i j : ℕ) (h : Head) where
   head_reference_yes : (n : ℕ) (A : ScriptType) → HeadIs s t i j A (Some h) → h ≡ Reference n
       → (B : ScriptType) × (A ≡ reference B) × Means s t i j n B
   unfolding HeadIs
-  head_reference_yes n (basic b) k e = absurd (unlike_basic b (some_head k) e)
-  head_reference_yes n (reference A) k e = (A, refl, rw (reference_place (sym e ∙ some_head k.1)) k.2)
-  head_reference_yes n (function A B) k e = absurd (unlike (sym (some_head k.2) ∙ e))
+  head_reference_yes n (basic b) k e = absurd (unlike_basic b (same_Some _ _ k) e)
+  head_reference_yes n (reference A) k e = (A, refl, rw (reference_place (sym e ∙ same_Some _ _ k.1)) k.2)
+  head_reference_yes n (function A B) k e = absurd (unlike (sym (same_Some _ _ k.2) ∙ e))
 
   head_reference_no : (A : ScriptType) → HeadIs s t i j A (Some h) → ((n : ℕ) → h ≡ Reference n → ⊥)
       → as_reference A ≡ none
   unfolding HeadIs
   head_reference_no (basic b) k e = refl
-  head_reference_no (reference A) k e = absurd (e k.0 (some_head k.1))
+  head_reference_no (reference A) k e = absurd (e k.0 (same_Some _ _ k.1))
   head_reference_no (function A B) k e = refl
 
   head_function_yes : (m n : ℕ) (A : ScriptType) → HeadIs s t i j A (Some h) → h ≡ Function m n
       → (B C : ScriptType) × (A ≡ function B C) × Written s m B × Means s t i j n C
   unfolding HeadIs
-  head_function_yes m n (basic b) k e = absurd (basic_function b (some_head k) e)
-  head_function_yes m n (reference A) k e = absurd (unlike (sym e ∙ some_head k.1))
+  head_function_yes m n (basic b) k e = absurd (basic_function b (same_Some _ _ k) e)
+  head_function_yes m n (reference A) k e = absurd (unlike (sym e ∙ same_Some _ _ k.1))
   head_function_yes m n (function A B) k e =
-      let d = sym e ∙ some_head k.2 in (A, B, refl, rw (function_argument d) k.3, rw (function_place d) k.4)
+      let d = sym e ∙ same_Some _ _ k.2 in (A, B, refl, rw (function_argument d) k.3, rw (function_place d) k.4)
 
   head_function_no : (A : ScriptType) → HeadIs s t i j A (Some h) → ((m n : ℕ) → h ≡ Function m n → ⊥)
       → as_function A ≡ none
   unfolding HeadIs
   head_function_no (basic b) k e = refl
   head_function_no (reference A) k e = refl
-  head_function_no (function A B) k e = absurd (e k.0 k.1 (some_head k.2))
+  head_function_no (function A B) k e = absurd (e k.0 k.1 (same_Some _ _ k.2))
 
   head_basic_yes : (b : Basic) (A : ScriptType) → HeadIs s t i j A (Some h) → h ≡ basic_head b → A ≡ basic b
   unfolding HeadIs
-  head_basic_yes b (basic c) k e = ap basic (basic_head_inj c b (sym (some_head k) ∙ e))
-  head_basic_yes b (reference A) k e = absurd (unlike_basic b e (some_head k.1))
-  head_basic_yes b (function A B) k e = absurd (basic_function b e (some_head k.2))
+  head_basic_yes b (basic c) k e = ap basic (basic_head_inj c b (sym (same_Some _ _ k) ∙ e))
+  head_basic_yes b (reference A) k e = absurd (unlike_basic b e (same_Some _ _ k.1))
+  head_basic_yes b (function A B) k e = absurd (basic_function b e (same_Some _ _ k.2))
 
   head_basic_no : (b : Basic) (A : ScriptType) → HeadIs s t i j A (Some h) → (h ≡ basic_head b → ⊥)
       → equal A (basic b) ≡ none
   unfolding HeadIs
   head_basic_no b A k e =
-      equal_none A (basic b) (λ q. e (some_head (subst (λ (X : ScriptType). HeadIs s t i j X (Some h)) q k)))
+      equal_none A (basic b) (λ q. e (same_Some _ _ (subst (λ (X : ScriptType). HeadIs s t i j X (Some h)) q k)))
 
 -- one child
 module _ (s t : List ℕ) (at a e : ℕ) (o : Option Head) (y : Headed s t a o) where
@@ -240,12 +238,12 @@ module _ (s : List ℕ) (at a : ℕ) (h : Head) (w : Tag) (q : word_of w ≡ get
       → Means s t i e k.want C → Means s t i e k.gives D → length (type_words C) ≤ length (type_words A)
       → Opens s t i e o A (Some k)
   gives t i e o A C D k p u v l = record {
-    yes = λ b q. (C, D, p, rw (ap (λ (x : Ask). x.want) (some_ask q)) at u, rw (ap (λ (x : Ask). x.gives) (some_ask q)) at v, l);
-    no = λ q. absurd (some_none q);
+    yes = λ b q. (C, D, p, rw (ap (λ (x : Ask). x.want) (same_Some _ _ q)) at u, rw (ap (λ (x : Ask). x.gives) (same_Some _ _ q)) at v, l);
+    no = λ q. absurd (none-some _ (sym q));
   }
 
   gives_none : (t : List ℕ) (i e : ℕ) (o : Two) (A : ScriptType) → opens o A ≡ none → Opens s t i e o A None
-  gives_none t i e o A p = record { yes = λ b q. absurd (some_none (sym q)); no = λ q. p }
+  gives_none t i e o A p = record { yes = λ b q. absurd (none-some _ q); no = λ q. p }
 
   pub ask_apply : (m n : ℕ) → w ≡ Apply → h ≡ Function m n
       → Asks s at a h (Some (record { want = m; gives = n }))

@@ -8,7 +8,8 @@ use mathlib.Core.Path.{◌≡◌, refl, ap, ◌∙◌, subst, sym}
 use native.Mathlib.Omega.{arith}
 use lib.Dec.{eqb}
 use lib.ListN.{get_or, length, set, length-set}
-use Rattle.std.specs.Prelude.{Some, None, Err}
+use Rattle.std.specs.Prelude.{Option, Some, None, Err}
+use Rattle.std.proofs.lemmas.Option.{none-some, same_Some}
 use Rattle.typing.specs.declared.CheckError.{CheckError}
 use Rattle.typing.specs.declared.CheckError.TheVariants.{NoType, NotFormed}
 use Rattle.words.specs.declared.table.Row.{Row}
@@ -26,11 +27,12 @@ use Rattle.calculus.specs.Typing.{Assignment, type_of, no_world, leaf_type, bind
 use Rattle.calculus.specs.Words.{type_words, words}
 use Rattle.words.specs.Rows.{row_of, tag_row}
 use Rattle.typing.specs.Inferring.{Stands, Infers, Keeps, Kept, Settled, First, Goes}
-use Rattle.typing.specs.Rulings.{Inferred, typed, Answers, Leafs, entered, note_at, ended, Enters, RuleOne, RuleTwo, RuleThree}
+use Rattle.typing.specs.Rulings.{Inferred, typed, Answers, Leafs, note_at, ended, Enters, RuleOne, RuleTwo, RuleThree}
 use Rattle.calculus.proofs.Reading.{tag_of_tag_word}
 use Rattle.typing.proofs.Children.{next, child_refused, next_stands, Next}
 use Rattle.typing.proofs.Firsts.{Branch, other_stands, lambda_stands, branch_one, branch_two, branch_if}
-use Rattle.typing.proofs.Firsts.{other_first, lambda_first, lambda_at}
+use Rattle.typing.proofs.Firsts.{other_first, lambda_first, lambda_at, Entered, entered_at, annotation_at, one_tag_lem}
+use Rattle.typing.proofs.Firsts.{two_tag_lem}
 use Rattle.typing.proofs.Fronts.{front, Front}
 
 -- an expression by its tag
@@ -67,24 +69,18 @@ child_count (one o e) = 1
 child_count (two o a b) = 2
 child_count (if a b c) = 3
 
-no_row : {a : Row} → None ≡ Some a → ⊥
-no_row e = cc
-
-some_row : {a b : Row} → Some a ≡ Some b → a ≡ b
-some_row e = cc
-
 row_of_tag : (g : NodeTag) → row_of (tag_word g) ≡ Some (tag_row g)
 unfolding row_of
 row_of_tag g = rw (tag_of_tag_word g) refl
 
 children_is : (e : Expression) (n : Row) → Some n ≡ row_of (tag_of_e e) → n.children ≡ child_count e
 unfolding tag_of_e
-children_is (constant c) n q = ap (λ (r : Row). r.children) (some_row (q ∙ row_of_tag (constant_tag c)))
-children_is (leaf k m) n q = ap (λ (r : Row). r.children) (some_row (q ∙ row_of_tag (leaf_tag k)))
-children_is (lambda x A e) n q = ap (λ (r : Row). r.children) (some_row (q ∙ row_of_tag lambda_tag))
-children_is (one o e) n q = ap (λ (r : Row). r.children) (some_row (q ∙ row_of_tag (one_tag o)))
-children_is (two o a b) n q = ap (λ (r : Row). r.children) (some_row (q ∙ row_of_tag (two_tag o)))
-children_is (if a b c) n q = ap (λ (r : Row). r.children) (some_row (q ∙ row_of_tag if_tag))
+children_is (constant c) n q = ap (λ (r : Row). r.children) (same_Some _ _ (q ∙ row_of_tag (constant_tag c)))
+children_is (leaf k m) n q = ap (λ (r : Row). r.children) (same_Some _ _ (q ∙ row_of_tag (leaf_tag k)))
+children_is (lambda x A e) n q = ap (λ (r : Row). r.children) (same_Some _ _ (q ∙ row_of_tag lambda_tag))
+children_is (one o e) n q = ap (λ (r : Row). r.children) (same_Some _ _ (q ∙ row_of_tag (one_tag o)))
+children_is (two o a b) n q = ap (λ (r : Row). r.children) (same_Some _ _ (q ∙ row_of_tag (two_tag o)))
+children_is (if a b c) n q = ap (λ (r : Row). r.children) (same_Some _ _ (q ∙ row_of_tag if_tag))
 
 front_of_lem : (s t : List ℕ) (at left : ℕ) (e : Expression) (Γ : Assignment) (d : Stands s t at left e Γ)
     → Front s at (tag_of_e e) (tail_of e ++ d.rest)
@@ -137,12 +133,12 @@ tag_low (if a b c) = omega arith
 
 row_there : (e : Expression) → None ≡ row_of (tag_of_e e) → ⊥
 unfolding tag_of_e
-row_there (constant c) q = no_row (q ∙ row_of_tag (constant_tag c))
-row_there (leaf k m) q = no_row (q ∙ row_of_tag (leaf_tag k))
-row_there (lambda x A e) q = no_row (q ∙ row_of_tag lambda_tag)
-row_there (one o e) q = no_row (q ∙ row_of_tag (one_tag o))
-row_there (two o a b) q = no_row (q ∙ row_of_tag (two_tag o))
-row_there (if a b c) q = no_row (q ∙ row_of_tag if_tag)
+row_there (constant c) q = none-some _ (q ∙ row_of_tag (constant_tag c))
+row_there (leaf k m) q = none-some _ (q ∙ row_of_tag (leaf_tag k))
+row_there (lambda x A e) q = none-some _ (q ∙ row_of_tag lambda_tag)
+row_there (one o e) q = none-some _ (q ∙ row_of_tag (one_tag o))
+row_there (two o a b) q = none-some _ (q ∙ row_of_tag (two_tag o))
+row_there (if a b c) q = none-some _ (q ∙ row_of_tag if_tag)
 
 -- a word that is no tag
 pub infer_rowless : (s t : List ℕ) (at left : ℕ) → None ≡ row_of (get_or s at 0) → Infers s at left t (Err NotFormed) t
@@ -207,15 +203,6 @@ infer_leaf s t t' at left n r q z l = record {
     go (two o a b) Γ d k g = absurd (omega arith)
     go (if a b c) Γ d k g = absurd (omega arith)
 
-length_entered : (s t : List ℕ) (at : ℕ) → length (entered s at t) ≡ length t
-unfolding entered
-length_entered s t at = go (eqb (get_or s at 0) 7)
-  where
-    go : (b : Bool)
-        → length (cond b (set (set t (at + 1) (get_or t (note_at s at) 0)) (note_at s at) (at + 2)) t) ≡ length t
-    go true = simp length-set
-    go false = refl
-
 length_ended : (s t : List ℕ) (at a : ℕ) → length (ended s at a t) ≡ length t
 unfolding ended
 length_ended s t at a = go (eqb (get_or s at 0) 7)
@@ -224,12 +211,36 @@ length_ended s t at a = go (eqb (get_or s at 0) 7)
     go true = simp length-set
     go false = simp length-set
 
+-- no lambda's annotation stands there
+pub infer_bodiless : (s t t₁ : List ℕ) (at left : ℕ) (n : Row) (o : Option ℕ) → Some n ≡ row_of (get_or s at 0)
+    → (n.children ≡ 0 → ⊥) → Enters s at t o t₁ → o ≡ None → Infers s at left t (Err NotFormed) t₁
+unfolding tag_of_e
+infer_bodiless s t t₁ at left n o q z b i = record {
+  room = b.room;
+  settles = λ e Γ d.
+      absurd (go e Γ d (stands_children s t at left n e Γ q d) (front_of_lem s t at left e Γ d).tag);
+}
+  where
+    never : {p : ℕ} → o ≡ Some p → ⊥
+    never e = none-some _ (sym i ∙ e)
+
+    go : (e : Expression) (Γ : Assignment) → Stands s t at left e Γ → n.children ≡ child_count e → get_or s at 0 ≡ tag_of_e e → ⊥
+    go (constant k) Γ d u g = z u
+    go (leaf k v) Γ d u g = z u
+    go (lambda v A e) Γ d u g = let (k, w) = annotation_at s t at left v A e Γ d in never (b.body A k (record { rest = words e ++ d.rest; is = w }))
+    go (one o e) Γ d u g = never (b.first (λ k. one_tag_lem o (sym g ∙ k)))
+    go (two o e f) Γ d u g = never (b.first (λ k. two_tag_lem o (sym g ∙ k)))
+    go (if e f h) Γ d u g = never (b.first (λ k. omega arith))
+
 -- the first child
 module _ (s t t₁ t₂ : List ℕ) (at p left : ℕ) (n : Row) (x : Inferred) (h : length s ≤ 2048)
-    (q : Some n ≡ row_of (get_or s at 0)) (z : n.children ≡ 0 → ⊥) (en : Enters s at t p t₁)
-    (c : Infers s p (left - 1) t₁ x t₂) where
+    (q : Some n ≡ row_of (get_or s at 0)) (z : n.children ≡ 0 → ⊥) (o : Option ℕ)
+    (b : Enters s at t o t₁) (i : o ≡ Some p) (c : Infers s p (left - 1) t₁ x t₂) where
+  en : Entered s at t p t₁
+  en = entered_at s t t₁ at p o b i
+
   long₂ : length t₂ ≡ length t
-  long₂ = c.room ∙ ap length en.table ∙ length_entered s t at
+  long₂ = c.room ∙ b.room
 
   pub infer_no : (m : CheckError) → x ≡ Err m → Infers s at left t x t₂
   unfolding type_of

@@ -13,21 +13,21 @@ use Rattle.words.specs.declared.tags.TypeTag.TheVariants.{Unit as UnitTag, Bool 
 use Rattle.words.specs.declared.tags.TypeTag.TheVariants.{Reference as ReferenceTag, Function as FunctionTag}
 
 -- a head's tag, and where the rest of the type is held
-abbrev pub tag_of : Head → TypeTag
-tag_of UnitHead = UnitTag
-tag_of BoolHead = BoolTag
-tag_of Number = NumberTag
-tag_of Rev = RevTag
-tag_of (Reference n) = ReferenceTag
-tag_of (Function m n) = FunctionTag
+abbrev pub head_tag : Head → TypeTag
+head_tag UnitHead = UnitTag
+head_tag BoolHead = BoolTag
+head_tag Number = NumberTag
+head_tag Rev = RevTag
+head_tag (Reference n) = ReferenceTag
+head_tag (Function m n) = FunctionTag
 
-abbrev pub rest_of : Head → Option ℕ
-rest_of UnitHead = None
-rest_of BoolHead = None
-rest_of Number = None
-rest_of Rev = None
-rest_of (Reference n) = Some n
-rest_of (Function m n) = Some n
+abbrev pub head_rest : Head → Option ℕ
+head_rest UnitHead = None
+head_rest BoolHead = None
+head_rest Number = None
+head_rest Rev = None
+head_rest (Reference n) = Some n
+head_rest (Function m n) = Some n
 
 abbrev pub basic_head : Basic → Head
 basic_head unit_type = UnitHead

@@ -56,10 +56,11 @@ unfoldable pub entered : List ℕ → ℕ → List ℕ → List ℕ
 entered s at t =
     cond (eqb (get_or s at 0) 7) (set (set t (at + 1) (get_or t (note_at s at) 0)) (note_at s at) (at + 2)) t
 
-pub record Enters (s : List ℕ) (at : ℕ) (t : List ℕ) (r : ℕ) (t' : List ℕ) : Type 0 where
-  pub first : (get_or s at 0 ≡ 7 → ⊥) → r ≡ at + 1
-  pub body : (A : ScriptType) → get_or s at 0 ≡ 7 → Written s (at + 2) A → r ≡ at + 2 + length (type_words A)
-  pub table : t' ≡ entered s at t
+pub record Enters (s : List ℕ) (at : ℕ) (t : List ℕ) (r : Option ℕ) (t' : List ℕ) : Type 0 where
+  pub room : length t' ≡ length t
+  pub first : (get_or s at 0 ≡ 7 → ⊥) → r ≡ Some (at + 1)
+  pub body : (A : ScriptType) → get_or s at 0 ≡ 7 → Written s (at + 2) A → r ≡ Some (at + 2 + length (type_words A))
+  pub table : (p : ℕ) → r ≡ Some p → t' ≡ entered s at t
 
 -- every node notes its first child's type as its link, and a lambda gives the scope back
 unfoldable pub ended : List ℕ → ℕ → ℕ → List ℕ → List ℕ

@@ -2,7 +2,7 @@
 ghost use Rattle.std.specs.Prelude.{◌≡◌, ◌+◌, ◌^◌, ◌<◌, length, set};
 ghost use Rattle.std.proofs.lemmas.List.Edits.{sets};
 
-// Writes w at i, or nothing past the end.
+// Writes w at i, or nothing past the end. By an index, since after `get_mut` a proof knows no element but the length.
 pub fn put(s: &mut [u16], i: usize, w: u16)
     ensures { s.new ≡ set s.old i w }
 {
@@ -11,7 +11,8 @@ pub fn put(s: &mut [u16], i: usize, w: u16)
     }
 }
 
-// Writes the part from `to` on, as far as there is room, and says where it ends.
+// Writes the part from `to` on, as far as there is room, and says where it ends, counting the words for which there is
+// none too, which the cursor of `write` does not.
 pub fn copy(part: &[u16], out: &mut [u16], to: usize) -> usize
     requires { to < 2 ^ 32 }
     ensures { (result ≡ to + length part.now)

@@ -9,6 +9,7 @@ use words::table::row_at;
 use words::tags::Tag;
 
 // The type of the expression at `at`, which has at most `left` words: a child has fewer than its parent.
+// A child's answer is taken apart by `let .. else`, a named form, and not by `?`.
 #[cycle(infer_others)]
 pub fn infer(script: Script, at: u16, left: u16, work: &mut [u16]) -> Result<Typed, CheckError>
     ensures { Infers script.entry.words.now at left work.old result work.new }
@@ -28,7 +29,9 @@ pub fn infer(script: Script, at: u16, left: u16, work: &mut [u16]) -> Result<Typ
     if row.children == 0 {
         return leaf(node, work);
     }
-    let start = enter(node, work);
+    let Some(start) = enter(node, work) else {
+        return Err(CheckError::NotFormed);
+    };
     let answer = infer(script, start, left - 1, work);
     let Ok(first) = answer else {
         return answer;

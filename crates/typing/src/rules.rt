@@ -17,8 +17,9 @@ pub struct Typed {
     pub end: u16,
 }
 
-// From here on the work buffer notes for each variable in scope where its annotation stands; before it is a word for
-// each word of the script, the link of the node there.
+// From here on the work buffer notes for each variable where its annotation stands, and 0 where it is not in scope;
+// before it is a word for each word of the script, the link of the node there. Both are words of the one buffer that the
+// caller of pulleyrush_check lends, so neither an Option nor a slice of its own.
 pub const SCOPE: usize = 2048;
 
 // No child: unit, false, true, a number, a variable. A location and a revision have no type in a script.
@@ -50,22 +51,20 @@ pub fn leaf(node: Node, work: &mut [u16]) -> Result<Typed, CheckError>
     }
 }
 
-// Where the first child starts. A lambda notes where its annotation stands, and keeps what was noted before.
-pub fn enter(node: Node, work: &mut [u16]) -> u16
+// Where the first child starts. A lambda, if an annotation stands in it, notes where, and keeps what was noted before.
+pub fn enter(node: Node, work: &mut [u16]) -> Option<u16>
     ensures { Enters node.entry.script.words.now node.entry.at work.old result work.new }
 {
     let at = node.at;
     let Tag::Lambda = node.tag else {
-        return at + 1;
+        return Some(at + 1);
     };
+    let body = type_end(node.script.words, at as usize + 2)?;
     let note = SCOPE + node.name() as usize;
     let old = word_at(work, note);
     put(work, at as usize + 1, old);
     put(work, note, at + 2);
-    match type_end(node.script.words, at as usize + 2) {
-        Some(body) => body as u16,
-        None => at,
-    }
+    Some(body as u16)
 }
 
 // After the first child: where its type is held becomes the node's link, and a lambda gives the scope back.

@@ -1,6 +1,6 @@
 // Types held as positions of the script, never copied: the tag at a position says which type it stands for.
 ghost use Rattle.std.specs.Prelude.{◌≡◌, ◌+◌, ◌≤◌, length, get_or};
-ghost use Rattle.typing.specs.Held.{Named, HeadIn, head_if, basic_of, Headed, SameHeads, SameTypes, tag_of, rest_of};
+ghost use Rattle.typing.specs.Held.{Named, HeadIn, head_if, basic_of, Headed, SameHeads, SameTypes, head_tag, head_rest};
 ghost use Rattle.words.specs.Tags.{word_of};
 
 use crate::script::Script;
@@ -24,7 +24,7 @@ pub enum Head {
 impl Head {
     // The first word of the type.
     pub fn tag(self) -> TypeTag
-        ensures { result ≡ tag_of self }
+        ensures { result ≡ head_tag self }
     {
         match self {
             Head::Unit => TypeTag::Unit,
@@ -38,7 +38,7 @@ impl Head {
 
     // Where the rest of the type is held, if it has one.
     pub fn rest(self) -> Option<u16>
-        ensures { result ≡ rest_of self }
+        ensures { result ≡ head_rest self }
     {
         match self {
             Head::Reference { rest } | Head::Function { rest, .. } => Some(rest),
@@ -48,16 +48,18 @@ impl Head {
 }
 
 // The words of the type that is written at `at`: that part of the script's own words.
+#[tactic(auto, using(crate::proofs::Ends::ends_after, crate::proofs::Ends::ends_in))]
 pub fn named(s: &[u16], at: usize) -> &[u16]
     ensures { Named s.now at result.now }
 {
     match type_end(s, at) {
         Some(end) => &s[at..end],
-        None => &s[0..0],
+        None => &[],
     }
 }
 
 // The head of a type whose words stand at the front of the part, which starts at p.
+#[tactic(auto, using(crate::proofs::Ends::ends_in, crate::proofs::Meaning::first_words))]
 fn head_in(part: &[u16], p: u16) -> Option<Head>
     requires { p + length part.now ≤ 65535 }
     ensures { HeadIn part.now p result }
@@ -79,6 +81,7 @@ fn head_in(part: &[u16], p: u16) -> Option<Head>
 }
 
 // The basic type that a node with this tag has, if it has one whatever its children are.
+#[tactic(auto, using(crate::proofs::Meaning::basic_tags))]
 fn basic_of(tag: Tag) -> Option<Head>
     ensures { result ≡ head_if (basic_of (word_of tag)) }
 {

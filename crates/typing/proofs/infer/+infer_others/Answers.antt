@@ -1,6 +1,7 @@
 -- `typing::infer::infer` and `others` meet their contracts: one law for each way through them.
 use Rattle.std.proofs.Common.{rules}
 use Rattle.typing.proofs.Whole.{infer_nothing, infer_rowless, infer_untagged, infer_leaf, infer_no, infer_one, infer_more}
+use Rattle.typing.proofs.Whole.{infer_bodiless}
 use Rattle.typing.proofs.Whole.{others_no, others_two, others_no_three, others_three}
 use Rattle.typing.proofs.infer.+infer_others.Goals as goal
 
@@ -15,6 +16,9 @@ infer-returns-in_default-of t c = search (rules, infer_untagged, c.in_default-of
 
 pub infer-returns-then-row-eq0 : goal.infer-returns-then-row-eq0
 infer-returns-then-row-eq0 t c = search (rules, infer_leaf, c.in-Some.ensures)
+
+pub infer-returns-in_default-enter : goal.infer-returns-in_default-enter
+infer-returns-in_default-enter t c = search (rules, infer_bodiless, c.in-Some.ensures)
 
 pub infer-returns-in_default-answer : goal.infer-returns-in_default-answer
 infer-returns-in_default-answer t c = search (rules, infer_no, c.in-Some.ensures)
