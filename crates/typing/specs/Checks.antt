@@ -8,9 +8,11 @@ use Rattle.words.specs.declared.script.ScriptError.TheVariants.{HoldsHandle as H
 use Rattle.words.specs.declared.script.ScriptError.TheVariants.{NotClosed as NotClosedScript}
 use Rattle.calculus.specs.Answers.{check_answer, out_after, work_after}
 
+-- what the check answers: the length of the type that it wrote, or why it wrote none
 abbrev pub Checked : Type 0
 Checked = Result ℕ CheckError
 
+-- the numbers of the refusals
 abbrev pub error_number : CheckError → ℕ
 error_number NoRoom = 9
 error_number NotFormed = 10
@@ -19,10 +21,12 @@ error_number NotClosed = 12
 error_number NoType = 13
 error_number LongType = 14
 
+-- the number of an answer
 abbrev pub number_of : Checked → ℕ
 number_of (Ok n) = 0
 number_of (Err e) = error_number e
 
+-- the length of what it wrote
 abbrev pub length_of : Checked → ℕ
 length_of (Ok n) = n
 length_of (Err e) = 0

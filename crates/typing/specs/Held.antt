@@ -12,7 +12,7 @@ use Rattle.words.specs.declared.tags.TypeTag.{TypeTag}
 use Rattle.words.specs.declared.tags.TypeTag.TheVariants.{Unit as UnitTag, Bool as BoolTag, Number as NumberTag, Rev as RevTag}
 use Rattle.words.specs.declared.tags.TypeTag.TheVariants.{Reference as ReferenceTag, Function as FunctionTag}
 
--- a head's tag, and where the rest of the type is held
+-- the tag of a type, by its head
 abbrev pub head_tag : Head → TypeTag
 head_tag UnitHead = UnitTag
 head_tag BoolHead = BoolTag
@@ -21,6 +21,7 @@ head_tag Rev = RevTag
 head_tag (Reference n) = ReferenceTag
 head_tag (Function m n) = FunctionTag
 
+-- where the rest of the type is held, if it has one
 abbrev pub head_rest : Head → Option ℕ
 head_rest UnitHead = None
 head_rest BoolHead = None
@@ -29,22 +30,25 @@ head_rest Rev = None
 head_rest (Reference n) = Some n
 head_rest (Function m n) = Some n
 
+-- the head of a basic type
 abbrev pub basic_head : Basic → Head
 basic_head unit_type = UnitHead
 basic_head bool_type = BoolHead
 basic_head num_type = Number
 basic_head rev_type = Rev
 
+-- the head of a basic type, if it is one
 abbrev pub head_if : Maybe Basic → Option Head
 head_if none = None
 head_if (some b) = Some (basic_head b)
 
--- the basic type of a node by its tag, if it has one whatever its children are
+-- for each tag from 0 the basic type of its node, if it has one whatever its children are
 abbrev pub basics : List (Maybe Basic)
 basics =
     some unit_type ∷ some bool_type ∷ some bool_type ∷ some num_type ∷ none ∷ none ∷ none ∷ none ∷ none ∷ none ∷ none
     ∷ none ∷ some unit_type ∷ some rev_type ∷ some unit_type ∷ some num_type ∷ some num_type ∷ some bool_type ∷ []
 
+-- the basic type of a node with the tag w
 unfoldable pub basic_of : ℕ → Maybe Basic
 basic_of w = get_or basics w none
 

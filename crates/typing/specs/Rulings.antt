@@ -20,6 +20,7 @@ use Rattle.typing.specs.Held.{Means, Written, HeadIs, Small}
 abbrev pub Inferred : Type 0
 Inferred = Result Typed CheckError
 
+-- the answer that the type is held at h, and that the node ends at e
 abbrev pub typed : ℕ → ℕ → Inferred
 typed h e = Ok (record { held = h; end = e })
 
@@ -56,6 +57,7 @@ unfoldable pub entered : List ℕ → ℕ → List ℕ → List ℕ
 entered s at t =
     cond (eqb (get_or s at 0) 7) (set (set t (at + 1) (get_or t (note_at s at) 0)) (note_at s at) (at + 2)) t
 
+-- where the first child starts, or none where no annotation stands in a lambda; and what is noted
 pub record Enters (s : List ℕ) (at : ℕ) (t : List ℕ) (r : Option ℕ) (t' : List ℕ) : Type 0 where
   pub room : length t' ≡ length t
   pub first : (get_or s at 0 ≡ 7 → ⊥) → r ≡ Some (at + 1)
@@ -80,6 +82,7 @@ opens apply A = as_function A
 opens assign A = as_reference A ▸ λ B. some (B, basic unit_type)
 opens (arithmetic o) A = equal A (basic num_type) ▸ λ u. some (basic num_type, arithmetic_type o)
 
+-- what is asked for a first child of type A: none where A has another head
 pub record Opens (s t : List ℕ) (i e : ℕ) (o : Two) (A : ScriptType) (k : Option Ask) : Type 0 where
   pub yes : (a : Ask) → k ≡ Some a
       → (C D : ScriptType) × (opens o A ≡ some (C, D)) × Means s t i e a.want C × Means s t i e a.gives D
