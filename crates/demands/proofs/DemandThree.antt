@@ -1,10 +1,10 @@
 -- Demand 3, proved from the promises of check, load and run, and the safety of passed scripts.
-use Prim.Native.Nat.{ℕ, zero, suc, ◌+◌, ◌-◌, ◌≤◌, ◌<◌}
+use Prim.Native.Nat.{ℕ, suc, ◌-◌, ◌≤◌}
 use mathlib.Core.Path.{◌≡◌, refl, sym, ap, ◌∙◌, subst as along}
 use mathlib.Core.Logic.{◌≢◌, ◌⊎◌, inl, inr}
-use mathlib.Core.Bool.{Bool, true, false, ◌&&◌, ◌||◌}
+use mathlib.Core.Bool.{Bool, true, false, ◌&&◌}
 use mathlib.Core.Option.{Option, none, some}
-use mathlib.Core.List.{List, [], ◌∷◌, ◌++◌, append_assoc, append-nil}
+use mathlib.Core.List.{List, [], ◌∷◌, ◌++◌, append-nil}
 use native.Mathlib.Omega.{arith}
 use lib.ListN.{length, take, drop, replicate}
 use lib.Seq.{take_at}
@@ -24,15 +24,16 @@ use Rattle.calculus.specs.Answers.{Script, script, no_script, script_if, script_
 use Rattle.calculus.specs.Answers.{holds_long_type, typed_answer, checked_from, check_answer, picked_state, last_state}
 use Rattle.calculus.specs.Answers.{pick_numbers, Ran as Run, ran_from, run_refused, run_answer}
 use Rattle.calculus.specs.Runs.{Picks, no_pick, Safe}
-use Rattle.calculus.proofs.Options.{none≢some, some_inj, T→true, T-fst, T-snd}
+use Rattle.calculus.proofs.Options.{none≢some, some_inj}
 use Rattle.calculus.proofs.Members.{member_cons}
 use Rattle.calculus.proofs.Reading.{words_read}
 use Rattle.calculus.proofs.Images.{image_read_back}
 use Rattle.calculus.proofs.TypingRules.{type_of_rules}
 use Rattle.calculus.proofs.Runs.{picks_append, run_picks, first_valid}
 use Rattle.calculus.proofs.DemandThree.{passed_scripts_are_safe, run_is_safe}
-use Rattle.engine.specs.declared.answers.Loaded.{Loaded}
-use Rattle.engine.specs.declared.answers.Ran.{Ran}
+use Rattle.std.specs.Prelude.{Result}
+use Rattle.engine.specs.declared.answers.LoadError.{LoadError}
+use Rattle.engine.specs.declared.answers.RunError.{RunError}
 use Rattle.engine.specs.Answers.{loaded_number, loaded_length, ran_number, ran_length}
 use Rattle.engine.specs.Promises.{LoadPromise, RunPromise}
 use Rattle.typing.specs.Checks.{Checked, number_of, length_of, CheckPromise}
@@ -237,9 +238,9 @@ never e A d done s k (r ∷ picks) n t =
 -- take any script that the check answers 0 for, the image that load gives, any picks through run
 pub demand_three : (script out₁ work₁ : List ℕ) (c : Checked) (out₁' work₁' : List ℕ)
     → CheckPromise script out₁ work₁ c out₁' work₁' → number_of c ≡ 0
-    → (out₂ work₂ : List ℕ) (l : Loaded) (out₂' work₂' : List ℕ)
+    → (out₂ work₂ : List ℕ) (l : Result ℕ LoadError) (out₂' work₂' : List ℕ)
     → LoadPromise script out₂ work₂ l out₂' work₂' → loaded_number l ≡ 0
-    → (state picks answers work₃ : List ℕ) (x : Ran) (state' answers' work₃' : List ℕ)
+    → (state picks answers work₃ : List ℕ) (x : Result ℕ RunError) (state' answers' work₃' : List ℕ)
     → take (loaded_length l) state ≡ take (loaded_length l) out₂'
     → RunPromise state (loaded_length l) picks answers work₃ x state' answers' work₃' → ran_number x ≡ 0
     → SafeRun script (take (length_of c) out₁') picks (take (length picks) answers') (take (ran_length x) state')

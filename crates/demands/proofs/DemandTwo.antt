@@ -8,11 +8,10 @@ use mathlib.Core.List.{List, [], ◌∷◌, ◌++◌}
 use native.Mathlib.Omega.{arith}
 use lib.ListN.{length, replicate, get_elem?}
 use lib.Dec.{T, leb, eqb, leb→le, le→leb, nleb→lt}
-use Rattle.calculus.specs.Numbers.{choose}
 use Rattle.calculus.specs.States.{State}
 use Rattle.calculus.specs.Images.{image, state_of, Valid, ValidImage}
 use Rattle.calculus.specs.Rules.{Step}
-use Rattle.calculus.specs.Steps.{Reason, by_shape, by_location, Outcome, next, emptied, finished, waits, stuck}
+use Rattle.calculus.specs.Steps.{by_shape, by_location, Outcome, next, emptied, finished, waits, stuck}
 use Rattle.calculus.specs.Steps.{not_live, no_number, step}
 use Rattle.calculus.specs.Conditions.{Condition}
 use Rattle.calculus.specs.Answers.{Answer, answer, refused, within, image_room, out_after, with_work, number_of}
@@ -22,9 +21,11 @@ use Rattle.calculus.proofs.Options.{T→true, ¬T→false, none≢some, some_inj
 use Rattle.calculus.proofs.Images.{image_read_back, valid_image_read, read_valid_image}
 use Rattle.calculus.proofs.Rules.{rules_step, step_rules}
 use Rattle.calculus.proofs.Outcomes.{outcome_exactly}
+use Rattle.std.specs.Prelude.{Result}
 use Rattle.engine.specs.declared.answers.Stepped.{Stepped}
-use Rattle.engine.specs.Answers.{stepped_number, stepped_length}
-use Rattle.engine.specs.Promises.{Answers, StepPromise}
+use Rattle.engine.specs.declared.answers.StepError.{StepError}
+use Rattle.engine.specs.Answers.{stepped_number}
+use Rattle.engine.specs.Promises.{StepPromise}
 use Rattle.demands.specs.DemandTwo.{Room, StepByRules, PickByRules}
 
 -- a result within its room, and one over it
@@ -205,7 +206,7 @@ module _ (s : State) (r : ℕ) (out : List ℕ) where
           filled n h ws = rw (T→true (leb n 1) (le→leb n 1 h)) refl
 
 -- demand 2, of one step: whatever words, buffers and pick, if the words are the image of a valid state
-pub demand_two_step : (ws : List ℕ) (r : ℕ) (out work : List ℕ) (x : Stepped) (out' work' : List ℕ)
+pub demand_two_step : (ws : List ℕ) (r : ℕ) (out work : List ℕ) (x : Result Stepped StepError) (out' work' : List ℕ)
     → StepPromise ws r out work x out' work' → length work ≡ 8192 → (s : State) → Valid s → ws ≡ image s
     → StepByRules s r out (stepped_number x) out'
 unfolding step_answer
@@ -223,7 +224,7 @@ demand_two_step ws r out work x out' work' p w s v i =
         eq→eqb n h = along (λ n. T (eqb n 8192)) (sym h) tt
 
 -- demand 2, of words that are no image: refused with 8
-pub demand_two_invalid : (ws : List ℕ) (r : ℕ) (out work : List ℕ) (x : Stepped) (out' work' : List ℕ)
+pub demand_two_invalid : (ws : List ℕ) (r : ℕ) (out work : List ℕ) (x : Result Stepped StepError) (out' work' : List ℕ)
     → StepPromise ws r out work x out' work' → length work ≡ 8192 → (stepped_number x ≡ 8) ↔ (ValidImage ws → ⊥)
 unfolding step_answer
 demand_two_invalid ws r out work x out' work' p w = (from (state_of ws) refl, to (state_of ws) refl)

@@ -12,15 +12,17 @@ use borrow.Author.Tests.{lt-leb}
 use Rattle.calculus.specs.Numbers.{choose}
 use Rattle.calculus.specs.States.{State}
 use Rattle.calculus.specs.Images.{state_of}
-use Rattle.calculus.specs.Answers.{Answer, Report, report_from, report_answer, run_refused, ran_from, run_answer}
+use Rattle.calculus.specs.Answers.{Answer, report_answer, run_refused, ran_from, run_answer}
 use Rattle.calculus.specs.Answers as answers
-use Rattle.image.specs.declared.report.Reported.{Reported}
+use Rattle.words.specs.declared.in_use.InUse.{InUse}
+use Rattle.image.specs.declared.report.NotValid.{NotValid}
 use Rattle.image.specs.Reports.{report_of}
+use Rattle.std.specs.Prelude.{Result, Ok, Err}
 use Rattle.engine.specs.declared.answers.Stepped.{Stepped}
-use Rattle.engine.specs.declared.answers.Stepped.TheVariants as stepped
-use Rattle.engine.specs.declared.answers.Loaded.{Loaded}
-use Rattle.engine.specs.declared.answers.Loaded.TheVariants as loaded
-use Rattle.engine.specs.declared.answers.Ran.{Ran}
+use Rattle.engine.specs.declared.answers.Stepped.TheVariants.{Moved, Emptied}
+use Rattle.engine.specs.declared.answers.StepError.{StepError}
+use Rattle.engine.specs.declared.answers.LoadError.{LoadError}
+use Rattle.engine.specs.declared.answers.RunError.{RunError}
 use Rattle.engine.specs.Answers.{stepped_number, stepped_length, loaded_number, loaded_length, ran_number, ran_length}
 use Rattle.engine.specs.Promises.{Answers, StepPromise, LoadPromise, RunPromise}
 
@@ -31,30 +33,21 @@ kept a k m out work o w s h =
     ∙ ap (λ b. choose b (a.written ++ replicate (length out - length a.written) 0) out)
     (lt-leb a.number 1 (omega arith))
 
-step_length : (a : Stepped) → 2 ≤ stepped_number a → stepped_length a ≡ 0
-step_length (stepped.Moved n) h = absurd (omega arith)
-step_length (stepped.Emptied n) h = absurd (omega arith)
-step_length stepped.Finished h = refl
-step_length stepped.Waits h = refl
-step_length (stepped.Stuck ρ) h = refl
-step_length stepped.NotLive h = refl
-step_length stepped.NoNumber h = refl
-step_length stepped.NotValid h = refl
-step_length stepped.NoRoom h = refl
+step_length : (a : Result Stepped StepError) → 2 ≤ stepped_number a → stepped_length a ≡ 0
+step_length (Ok (Moved n)) h = absurd (omega arith)
+step_length (Ok (Emptied n)) h = absurd (omega arith)
+step_length (Err e) h = refl
 
-load_length : (a : Loaded) → 2 ≤ loaded_number a → loaded_length a ≡ 0
-load_length (loaded.First n) h = absurd (omega arith)
-load_length loaded.NotFormed h = refl
-load_length loaded.HoldsHandle h = refl
-load_length loaded.NotClosed h = refl
-load_length loaded.NoRoom h = refl
+load_length : (a : Result ℕ LoadError) → 2 ≤ loaded_number a → loaded_length a ≡ 0
+load_length (Ok n) h = absurd (omega arith)
+load_length (Err e) h = refl
 
-pub step_refused : (image : List ℕ) (r : ℕ) (out work : List ℕ) (a : Stepped) (out' work' : List ℕ)
+pub step_refused : (image : List ℕ) (r : ℕ) (out work : List ℕ) (a : Result Stepped StepError) (out' work' : List ℕ)
     → StepPromise image r out work a out' work' → 2 ≤ stepped_number a → (stepped_length a ≡ 0) × (out' ≡ out)
 step_refused image r out work a out' work' s h =
     (step_length a h, kept _ (stepped_number a) (stepped_length a) out work out' work' s h)
 
-pub load_refused : (script out work : List ℕ) (a : Loaded) (out' work' : List ℕ)
+pub load_refused : (script out work : List ℕ) (a : Result ℕ LoadError) (out' work' : List ℕ)
     → LoadPromise script out work a out' work' → 2 ≤ loaded_number a → (loaded_length a ≡ 0) × (out' ≡ out)
 load_refused script out work a out' work' s h =
     (load_length a h, kept _ (loaded_number a) (loaded_length a) out work out' work' s h)
@@ -86,22 +79,15 @@ run_kept state n picks told work =
     sized true = short (leb n 8192)
     sized false = λ h. (refl, refl, refl, refl)
 
-pub run_refused_lem : (state : List ℕ) (n : ℕ) (picks answers work : List ℕ) (a : Ran) (state' answers' work' : List ℕ)
+pub run_refused_lem : (state : List ℕ) (n : ℕ) (picks answers work : List ℕ) (a : Result ℕ RunError) (state' answers' work' : List ℕ)
     → RunPromise state n picks answers work a state' answers' work' → 2 ≤ ran_number a
     → (ran_length a ≡ 0) × (state' ≡ state) × (answers' ≡ answers) × (work' ≡ work)
 unfolding RunKept
 run_refused_lem state n picks answers work a state' answers' work' h l =
     let (e, f, g, k) = run_kept state n picks answers work (omega arith) in (cc, cc, cc, cc)
 
-report_clear : (s : Option State) → 2 ≤ (report_from s).number
-    → ((report_from s).marks ≡ replicate 64 false) × ((report_from s).count ≡ 0)
-report_clear none h = (refl, refl)
-report_clear (some s) h = absurd (omega arith)
-
-pub report_refused : (image : List ℕ) (r : Reported) → report_of r ≡ report_answer image → 2 ≤ r.number
-    → (r.used.marks ≡ replicate 64 false) × (r.used.count ≡ 0)
-unfolding report_answer
-report_refused image r h l =
-    let number = ap (λ (q : Report). q.number) h in
-    let (m, c) = report_clear (state_of image) (omega arith) in
-    (ap (λ (q : Report). q.marks) h ∙ m, ap (λ (q : Report). q.count) h ∙ c)
+pub report_refused : (image : List ℕ) (r : Result InUse NotValid) → report_of r ≡ report_answer image
+    → 2 ≤ (report_of r).number
+    → ((report_of r).marks ≡ replicate 64 false) × ((report_of r).count ≡ 0)
+report_refused image (Ok used) h l = absurd (omega arith)
+report_refused image (Err e) h l = (refl, refl)
