@@ -1,14 +1,13 @@
 -- The number whose bits some marks are, read from the highest mark down.
-use Prim.Native.Nat.{ℕ, zero, suc, ◌+◌, ◌*◌, ◌-◌, ◌^◌, ◌<◌, ◌≤◌}
-use mathlib.Core.Path.{◌≡◌, sym, ap, ◌∙◌}
+use Prim.Native.Nat.{ℕ, zero, suc, ◌+◌, ◌*◌, ◌^◌, ◌<◌, ◌≤◌}
+use mathlib.Core.Path.{◌≡◌, refl, sym, ap, ◌∙◌}
 use mathlib.Core.Bool.{Bool, true, false}
-use mathlib.Core.List.{List, [], ◌∷◌}
+use mathlib.Core.List.{List, [], ◌∷◌, ◌++◌, append_assoc, append-nil}
 use native.Mathlib.Nat.{pow-suc}
-use native.Mathlib.Numerals.{add-one}
 use native.Mathlib.Omega.{arith}
-use lib.ListN.{length, get_or, drop, length-drop, drop_of_length-le}
+use lib.ListN.{length, length-append}
 use lib.Pow.{pow_pos}
-use lib.Seq.{drop-cons}
+use mir.Val.{bool_byte}
 use Rattle.calculus.specs.Numbers.{choose}
 use Rattle.host.specs.Host.{bits}
 
@@ -24,72 +23,56 @@ bits_small (suc n) (b ∷ l) h = go b (bits_small n l (omega arith))
     go true i = let e = pow-suc 2 n in omega arith
     go false i = let e = pow-suc 2 n in omega arith
 
--- m is the number of the marks from i on
-pub record Down (marks : List Bool) (m i : ℕ) : Type 0 where
+-- the marks are those still to come and those done, of which number is the number
+pub record Down (marks rest : List Bool) (number : ℕ) : Type 0 where
   pub size : length marks ≡ 64
-  pub high : i ≤ 64
-  pub sum : m ≡ bits (drop i marks)
-  pub small : m < 2 ^ 64
+  pub done : List Bool
+  pub split : marks ≡ rest ++ done
+  pub sum : number ≡ bits done
 
-pub down_start : (marks : List Bool) → length marks ≡ 64 → Down marks 0 64
+pub down_start : (marks rest : List Bool) → length marks ≡ 64 → rest ≡ marks → Down marks rest 0
 unfolding bits
-down_start marks h =
-    let l : length marks ≤ 64 = omega arith in
-    record { size = h; high = omega arith; sum = sym (ap bits (drop_of_length-le marks l)); small = omega arith }
+down_start marks rest h e = record { size = h; done = []; split = sym (append-nil rest ∙ e); sum = refl }
 
--- with a mark below to go, twice the number and one more still fit
-pub record Room (m i : ℕ) : Type 0 where
-  pub twice : m < 2 ^ 63
+-- with a mark to come, twice the number and one more fit
+pub record Room (number : ℕ) : Type 0 where
+  pub twice : number * 2 + 1 < 2 ^ 64
 
-pub down_room : {marks : List Bool} {m i : ℕ} → Down marks m i → 0 < i → Room m i
-down_room {marks} {m} {i} d h =
-    let n = length-drop i marks in
-    let l = bits_small 63 (drop i marks) (let z = d.size in omega arith) in
-    let e = d.sum in
+pub down_room : {marks rest : List Bool} {number : ℕ} (left : List Bool) (b : Bool) → Down marks rest number
+    → rest ≡ left ++ (b ∷ []) → Room number
+down_room {marks} {rest} {number} left b d e =
+    let z = d.size in
+    let l = ap length d.split ∙ length-append rest d.done in
+    let k = ap length e ∙ length-append left (b ∷ []) in
+    let s = bits_small 63 d.done (omega arith) in
+    let i = d.sum in
     record { twice = omega arith }
 
-down_cons : (marks : List Bool) (i : ℕ) → i < length marks
-    → bits (drop i marks) ≡ choose (get_or marks i false) 1 0 + 2 * bits (drop (i + 1) marks)
+-- a mark as a number
+pub record Byte (n : ℕ) : Type 0 where
+  pub low : n ≤ 1
+
+pub byte_fits : (n : ℕ) (b : Bool) → n ≡ bool_byte b → Byte n
+byte_fits n true e = record { low = omega arith }
+byte_fits n false e = record { low = omega arith }
+
+byte_is : (b : Bool) → bool_byte b ≡ choose b 1 0
+byte_is true = refl
+byte_is false = refl
+
+pub down_turn : (marks rest left : List Bool) (number : ℕ) (b : Bool) (n : ℕ) → Down marks rest number
+    → rest ≡ left ++ (b ∷ []) → n ≡ bool_byte b → Down marks left (number * 2 + n)
 unfolding bits
-down_cons marks i h =
-    ap bits (drop-cons marks i false h) ∙ ap (λ k. choose (get_or marks i false) 1 0 + 2 * bits (drop k marks))
-    (sym (add-one i))
-
-pub down_set : {marks : List Bool} {m i : ℕ} → Down marks m i → 0 < i → get_or marks (i - 1) false ≡ true
-    → Down marks (m * 2 + 1) (i - 1)
-down_set {marks} {m} {i} d h t =
-    let r = (down_room d h).twice in
-    let z = d.size in
-    let y = d.high in
-    let k = down_cons marks (i - 1) (omega arith) in
-    let j : i - 1 + 1 ≡ i = omega arith in
-    let e = d.sum in
+down_turn marks rest left number b n d e i =
+    let s = d.sum in
+    let j = byte_is b in
     record {
       size = d.size;
-      high = omega arith;
-      sum =
-          sym (k ∙ ap (λ b. choose b 1 0 + 2 * bits (drop (i - 1 + 1) marks)) t ∙ ap (λ n. 1 + 2 * bits (drop n marks))
-          j ∙ ap (λ n. 1 + 2 * n) (sym e) ∙ (omega arith));
-      small = omega arith;
+      done = b ∷ d.done;
+      split = d.split ∙ ap (λ (l : List Bool). l ++ d.done) e ∙ append_assoc left (b ∷ []) d.done;
+      sum = omega arith;
     }
 
-pub down_clear : {marks : List Bool} {m i : ℕ} → Down marks m i → 0 < i → get_or marks (i - 1) false ≡ false
-    → Down marks (m * 2) (i - 1)
-down_clear {marks} {m} {i} d h t =
-    let r = (down_room d h).twice in
-    let z = d.size in
-    let y = d.high in
-    let k = down_cons marks (i - 1) (omega arith) in
-    let j : i - 1 + 1 ≡ i = omega arith in
-    let e = d.sum in
-    record {
-      size = d.size;
-      high = omega arith;
-      sum =
-          sym (k ∙ ap (λ b. choose b 1 0 + 2 * bits (drop (i - 1 + 1) marks)) t ∙ ap (λ n. 0 + 2 * bits (drop n marks))
-          j ∙ ap (λ n. 0 + 2 * n) (sym e) ∙ (omega arith));
-      small = omega arith;
-    }
-
-pub down_done : {marks : List Bool} {m i : ℕ} → Down marks m i → i ≤ 0 → m ≡ bits marks
-down_done {marks} {m} {i} d h = let z : i ≡ 0 = omega arith in d.sum ∙ ap (λ n. bits (drop n marks)) z
+pub down_done : (marks rest : List Bool) (number : ℕ) → Down marks rest number → length rest ≡ 0 → number ≡ bits marks
+down_done marks [] number d h = d.sum ∙ sym (ap bits d.split)
+down_done marks (b ∷ rest) number d h = absurd (omega arith)

@@ -1,19 +1,20 @@
 -- Twice the number at each mark from the highest down, and one more where the mark is set.
-use Rattle.std.proofs.Common.{arith}
-use Rattle.host.proofs.Bits.{down_start, down_room, down_set, down_clear}
+use Rattle.std.proofs.Common.{arith, rules}
+use Rattle.host.proofs.Bits.{byte_fits, down_start, down_room, down_turn}
 use Rattle.host.proofs.bits_of.Goals as goal
 
-pub loop-i-init : goal.loop-i-init
-loop-i-init c = search down_start
+pub loop-marked-init : goal.loop-marked-init
+loop-marked-init c = down_start _ _ (search rules) (cc)
 
-pub overflow_mul-m : goal.overflow_mul-m
-overflow_mul-m c = let r = down_room c.loop-i.invariant c.loop-i-test.true in omega arith
+pub overflow_mul-number : goal.overflow_mul-number
+overflow_mul-number c =
+    let r = down_room _ _ c.loop-marked.invariant c.in-Some.ensures.steps in omega arith
 
-pub overflow_add-m : goal.overflow_add-m
-overflow_add-m c = let r = down_room c.loop-i.invariant c.loop-i-test.true in omega arith
+pub overflow_add-number : goal.overflow_add-number
+overflow_add-number c =
+    let r = down_room _ _ c.loop-marked.invariant c.in-Some.ensures.steps in
+    let b = byte_fits _ _ c.from.ensures in
+    omega arith
 
-pub loop-i-preserved-then-marks-i : goal.loop-i-preserved-then-marks-i
-loop-i-preserved-then-marks-i c = search down_set
-
-pub loop-i-preserved : goal.loop-i-preserved
-loop-i-preserved c = search down_clear
+pub loop-marked-preserved : goal.loop-marked-preserved
+loop-marked-preserved c = search (down_turn, c.in-Some.ensures.steps)

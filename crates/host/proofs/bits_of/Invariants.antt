@@ -1,9 +1,6 @@
--- m has the bits of the marks from i on; the measure is i.
+-- The number is that of the marks done.
 use Rattle.host.proofs.Bits.{Down}
 use Rattle.host.proofs.bits_of.Given as goal
 
-abbrev pub invariant-loop-i : goal.invariant-loop-i
-invariant-loop-i l = Down l.marks l.m l.i
-
-abbrev pub decreases-loop-i : goal.decreases-loop-i
-decreases-loop-i l = l.i
+abbrev pub invariant-loop-marked : goal.invariant-loop-marked
+invariant-loop-marked l = Down l.fn.marks l.marked-iterator.iter.rest.now l.number
