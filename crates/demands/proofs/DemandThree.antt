@@ -4,16 +4,16 @@ use mathlib.Core.Path.{◌≡◌, refl, sym, ap, ◌∙◌, subst as along}
 use mathlib.Core.Logic.{◌≢◌, ◌⊎◌, inl, inr}
 use mathlib.Core.Bool.{Bool, true, false, ◌&&◌}
 use mathlib.Core.Option.{Option, none, some}
-use mathlib.Core.List.{List, [], ◌∷◌, ◌++◌, append-nil}
+use mathlib.Core.List.{List, [], ◌∷◌, ◌++◌}
 use native.Mathlib.Omega.{arith}
 use lib.ListN.{length, take, drop, replicate}
 use lib.Seq.{take_at}
-use lib.Dec.{T, leb, eqb, leb→le}
+use lib.Dec.{T, leb, eqb}
 use Rattle.calculus.specs.Types.{ScriptType}
 use Rattle.calculus.specs.Expressions.{Expression}
-use Rattle.calculus.specs.Words.{type_words, words}
-use Rattle.calculus.specs.Formed.{Formed, member, closed, holds_handle}
-use Rattle.calculus.specs.Reading.{wholly, read_expression, expression_of}
+use Rattle.calculus.specs.Words.{type_words}
+use Rattle.calculus.specs.Formed.{member, closed, holds_handle}
+use Rattle.calculus.specs.Reading.{expression_of}
 use Rattle.calculus.specs.Numbers.{choose}
 use Rattle.calculus.specs.States.{State, first}
 use Rattle.calculus.specs.Images.{image, state_of, Valid}
@@ -24,9 +24,7 @@ use Rattle.calculus.specs.Answers.{Script, script, no_script, script_if, script_
 use Rattle.calculus.specs.Answers.{holds_long_type, typed_answer, checked_from, check_answer, picked_state, last_state}
 use Rattle.calculus.specs.Answers.{pick_numbers, Ran as Run, ran_from, run_refused, run_answer}
 use Rattle.calculus.specs.Runs.{Picks, no_pick, Safe}
-use Rattle.calculus.proofs.Options.{none≢some, some_inj}
 use Rattle.calculus.proofs.Members.{member_cons}
-use Rattle.calculus.proofs.Reading.{words_read}
 use Rattle.calculus.proofs.Images.{image_read_back}
 use Rattle.calculus.proofs.TypingRules.{type_of_rules}
 use Rattle.calculus.proofs.Runs.{picks_append, run_picks, first_valid}
@@ -36,6 +34,7 @@ use Rattle.engine.specs.declared.answers.LoadError.{LoadError}
 use Rattle.engine.specs.declared.answers.RunError.{RunError}
 use Rattle.engine.specs.Answers.{loaded_number, loaded_length, ran_number, ran_length}
 use Rattle.engine.specs.Promises.{LoadPromise, RunPromise}
+use Rattle.engine.proofs.Loading.{is_script_lem}
 use Rattle.typing.specs.Checks.{Checked, number_of, length_of, CheckPromise}
 use Rattle.demands.specs.DemandThree.{SafeRun}
 use Rattle.demands.proofs.DemandTwo.{refusal_exactly}
@@ -62,51 +61,6 @@ past_within room a = go (leb (length a.written) room)
     go : (b : Bool) → (choose b a (refused 9)).number ≡ 0 → choose b a (refused 9) ≡ a
     go true z = refl
     go false z = absurd (omega arith)
-
--- what a script is
-record IsScript (ws : List ℕ) (e : Expression) : Type 0 where
-  pub written : ws ≡ words e
-  pub formed : Formed e
-  pub closed : T (closed e)
-  pub short : length ws ≤ 2048
-
-wholly_is : {A : Type 0} (o : Option (A × List ℕ)) {a : A} → wholly o ≡ some a → o ≡ some (a, [])
-wholly_is none h = none≢some h
-wholly_is (some (a, [])) h = ap (λ a. some (a, [])) (some_inj h)
-wholly_is (some (a, w ∷ ws)) h = none≢some h
-
-no_script_lem : {n : ℕ} {e : Expression} {C : Type 0} → no_script n ≡ script e → C
-no_script_lem h = absurd (let z : ◌≡◌ {A = ℕ} 0 1 = cc in omega arith)
-
-script_inj : {e f : Expression} → script e ≡ script f → e ≡ f
-script_inj h = cc
-
-is_script_lem : (ws : List ℕ) (e : Expression) → script_of ws ≡ script e → IsScript ws e
-unfolding script_of expression_of
-is_script_lem ws e h = long (leb (length ws) 2048) refl h
-  where
-    bound : (d : Expression) (b : Bool) → closed d ≡ b → choose b (script d) (no_script 12) ≡ script e
-        → (d ≡ e) × T (closed d)
-    bound d true p q = (script_inj q, rw p tt)
-    bound d false p q = no_script_lem q
-
-    handles : (d : Expression) (b : Bool)
-        → choose b (no_script 11) (choose (closed d) (script d) (no_script 12)) ≡ script e → (d ≡ e) × T (closed d)
-    handles d true q = no_script_lem q
-    handles d false q = bound d (closed d) refl q
-
-    read : length ws ≤ 2048 → (o : Option Expression) → wholly (read_expression (length ws) ws) ≡ o
-        → script_if o ≡ script e → IsScript ws e
-    read l none p q = no_script_lem q
-    read l (some d) p q =
-        let (i, c) = handles d (holds_handle d) q in
-        let g = words_read (length ws) ws (d, []) (wholly_is (read_expression (length ws) ws) p) in
-        along (IsScript ws) i (record { written = g.0 ∙ append-nil (words d); formed = g.1; closed = c; short = l })
-
-    long : (b : Bool) → leb (length ws) 2048 ≡ b
-        → choose b (script_if (wholly (read_expression (length ws) ws))) (no_script 10) ≡ script e → IsScript ws e
-    long true p q = read (leb→le (length ws) 2048 (rw p tt)) (wholly (read_expression (length ws) ws)) refl q
-    long false p q = no_script_lem q
 
 -- a check that answers 0: the script has a type by the rules, and its words are written
 record Passed (ws : List ℕ) (a : Answer) : Type 0 where

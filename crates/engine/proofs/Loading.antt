@@ -6,11 +6,11 @@ use mathlib.Core.Option.{Option, none, some}
 use mathlib.Core.Path.{subst as along, ◌≡◌, refl, sym, ap, ◌∙◌}
 use native.Mathlib.Omega.{arith}
 use lib.ListN.{length, drop, set, replicate, length-replicate}
-use lib.Dec.{leb, leb→le}
+use lib.Dec.{T, leb, leb→le}
 use lib.Seq.{sets, sets-eq}
 use Rattle.calculus.specs.Expressions.{Expression}
 use Rattle.calculus.specs.Words.{words}
-use Rattle.calculus.specs.Formed.{closed, holds_handle}
+use Rattle.calculus.specs.Formed.{Formed, closed, holds_handle}
 use Rattle.calculus.specs.Reading.{expression_of}
 use Rattle.calculus.specs.Numbers.{choose}
 use Rattle.calculus.specs.States.{first}
@@ -92,31 +92,36 @@ first_written ws out o₁ r o₂ r' o₃ s h c w v =
         ∙ ap (λ (l : List ℕ). 1 ∷ 0 ∷ 0 ∷ 0 ∷ (ws ++ l)) (drop_zeros (length ws) (length out - 4))
         ∙ ap (λ k. 1 ∷ 0 ∷ 0 ∷ 0 ∷ (ws ++ replicate k 0)) left
 
--- a script's words and their number
-record IsScript (ws : List ℕ) (e : Expression) : Type 0 where
+-- what a script is
+pub record IsScript (ws : List ℕ) (e : Expression) : Type 0 where
   pub written : ws ≡ words e
+  pub formed : Formed e
+  pub closed : T (closed e)
   pub short : length ws ≤ 2048
 
 not_script : {n : ℕ} {e : Expression} {C : Type 0} → no_script n ≡ script e → C
 not_script h = absurd (let z : ◌≡◌ {A = ℕ} 0 1 = cc in omega arith)
 
-is_script_lem : (ws : List ℕ) (e : Expression) → script_of ws ≡ script e → IsScript ws e
+pub is_script_lem : (ws : List ℕ) (e : Expression) → script_of ws ≡ script e → IsScript ws e
 unfolding script_of
 is_script_lem ws e h = long (leb (length ws) 2048) refl h
   where
-    closed_is : (d : Expression) (b : Bool) → choose b (script d) (no_script 12) ≡ script e → d ≡ e
-    closed_is d true q = cc
-    closed_is d false q = not_script q
+    closed_is : (d : Expression) (b : Bool) → closed d ≡ b → choose b (script d) (no_script 12) ≡ script e
+        → (d ≡ e) × T (closed d)
+    closed_is d true p q = (cc, rw p tt)
+    closed_is d false p q = not_script q
 
     holds_none : (d : Expression) (b : Bool)
-        → choose b (no_script 11) (choose (closed d) (script d) (no_script 12)) ≡ script e → d ≡ e
+        → choose b (no_script 11) (choose (closed d) (script d) (no_script 12)) ≡ script e → (d ≡ e) × T (closed d)
     holds_none d true q = not_script q
-    holds_none d false q = closed_is d (closed d) q
+    holds_none d false q = closed_is d (closed d) refl q
 
     read : length ws ≤ 2048 → (o : Option Expression) → expression_of ws ≡ o → script_if o ≡ script e → IsScript ws e
     read l none p q = not_script q
     read l (some d) p q =
-        along (IsScript ws) (holds_none d (holds_handle d) q) (record { written = (words_of ws d p).0; short = l })
+        let (i, c) = holds_none d (holds_handle d) q in
+        let (w, f) = words_of ws d p in
+        along (IsScript ws) i (record { written = w; formed = f; closed = c; short = l })
 
     long : (b : Bool) → leb (length ws) 2048 ≡ b → choose b (script_if (expression_of ws)) (no_script 10) ≡ script e
         → IsScript ws e

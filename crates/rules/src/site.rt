@@ -1,6 +1,7 @@
 // Where a revision works, and what comes of a step there.
 
 // Of revision `revision`: where its snapshot's count, its local store's count and its expression start, and its redex.
+// The words are passed beside it: with them in one struct a clause would say work.entry.image.now, and not s.now.
 #[derive(Clone, Copy, PartialEq, Eq, Debug)]
 pub struct Site {
     pub revision: u16,
