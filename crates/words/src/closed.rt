@@ -24,12 +24,13 @@ fn node_at(s: &[u16], at: usize) -> Option<Node>
 {
     let front = front_at(s, Kind::Expression, at)?;
     let next = front.next;
-    let x = word_at(s, at + 1) as usize;
     if front.row.types != 0 {
         let body = type_end(s, next)?;
+        let x = word_at(s, at + 1) as usize;
         return Some(Node::Binder { x, body });
     }
     if word_at(s, at) == Tag::Variable as u16 {
+        let x = word_at(s, at + 1) as usize;
         return Some(Node::Variable { x, next });
     }
     let children = front.row.children;

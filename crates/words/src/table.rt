@@ -105,6 +105,7 @@ const FUNCTION: Row = Row {
 static TYPES: [Row; 6] = [BASIC, BASIC, BASIC, BASIC, REFERENCE, FUNCTION];
 
 // The row of a word, if it is a tag.
+#[inline(always)]
 pub fn row_at(tag: u16) -> Option<Row>
     ensures { result ≡ row_of tag }
 {

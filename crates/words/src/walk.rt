@@ -12,7 +12,9 @@ pub struct Front {
     pub next: usize,
 }
 
-// The tag and the own word of a node of the kind that stands at `at`.
+// The tag and the own word of a node of the kind that stands at `at`. It and `row_at` stand inline in the walks, since
+// a row that is handed back whole makes them some three to seven times slower than one that is read where it stands.
+#[inline(always)]
 pub fn front_at(s: &[u16], kind: Kind, at: usize) -> Option<Front>
     ensures { result ≡ front_of s.now kind at }
 {
