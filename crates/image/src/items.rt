@@ -127,6 +127,7 @@ impl Item for Section {
 }
 
 // Where the item with the key stands among n items that start at `at`, or else where it would go.
+// A walk and no binary search: where an item ends is known only once it is read.
 pub fn seek<I: Item>(s: &[u16], at: usize, n: usize, key: u16) -> Result<usize, usize>
     ensures { Seeks I.told_words I.IsValid I.LARGEST s.now at n key result }
 {
