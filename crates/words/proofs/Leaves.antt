@@ -1,12 +1,12 @@
 -- The scan for a leaf, node by node, and what the scans for all leaves of a kind come to.
-use Prim.Native.Nat.{ℕ, suc, ◌+◌, ◌<◌, ◌≤◌}
+use Prim.Native.Nat.{ℕ, suc, ◌+◌, ◌≤◌}
 use mathlib.Core.Path.{subst as along, ◌≡◌, refl, sym, ap, ◌∙◌}
 use mathlib.Core.Bool.{Bool, true, false, ◌||◌}
 use mathlib.Core.List.{List, [], ◌∷◌, ◌++◌, append-nil}
 use mathlib.Core.Option.{some}
 use native.Mathlib.Omega.{arith}
 use denote.Enum.Declared.{tag_of}
-use lib.ListN.{length, get_or, set}
+use lib.ListN.{get_or, set}
 use Rattle.std.specs.Prelude.{Option, Some, None, is_some}
 use Rattle.calculus.specs.Expressions.{Leaf, number, variable, location, revision}
 use Rattle.calculus.specs.Expressions.{Expression, constant, leaf, lambda, one, two, if}

@@ -4,10 +4,10 @@ use mathlib.Core.Path.{◌≡◌, refl, sym, ap, ◌∙◌}
 use mathlib.Core.Bool.{Bool, true, false, ◌||◌}
 use mathlib.Core.List.{List, [], ◌∷◌, ◌++◌}
 use native.Mathlib.Nat.{le_of_suc-le-suc, add-zero}
-use native.Mathlib.Decide.{ℕ_discrete, dec_lt}
+use native.Mathlib.Decide.{ℕ_discrete}
 use native.Mathlib.Omega.{arith}
 use lib.ListN.{length, get_or, set, length-set, replicate, get_or-replicate, length-replicate}
-use lib.Seq.{set_out, set-get_or, get_or-set_same, get_or-set_other, ext_get_or}
+use lib.Seq.{get_or-set_same, get_or-set_other, ext_get_or}
 use lib.Dec.{eqb}
 use Rattle.calculus.specs.Formed.{member}
 use Rattle.calculus.specs.Answers.{tally, marks_of}

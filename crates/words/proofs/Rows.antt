@@ -5,7 +5,9 @@ use mathlib.Core.Option.{Option as Maybe, none, some}
 use mathlib.Core.Path.{subst as along, ◌≡◌, refl, sym, ◌∙◌}
 use native.Mathlib.Omega.{arith}
 use native.Mathlib.Decide.{dec_lt}
-use borrow.Author.Tests.{le-leb, lt-leb}
+use borrow.Author.Tests.{le-leb, lt-leb, le-ltb, lt-ltb}
+use lib.Dec.{ltb}
+use Rattle.calculus.specs.Numbers.{choose}
 use lib.ListN.{length, get_or, get_elem?}
 use Rattle.std.specs.Prelude.{Option, Some, None}
 use Rattle.calculus.specs.Tags.{Tag, constant_tag, leaf_tag, lambda_tag, one_tag, two_tag, if_tag, tags}
@@ -66,6 +68,12 @@ unfolding row_of
 type_row w d l h =
     rw (no_tag w (omega arith), le-leb 32 w l) (type_tag_in type_tags (w - 32) (omega arith) d)
 
+-- the two tables of the code, as one: from 0 those of expressions, from 32 those of types
+unfoldable pub table : ℕ → Option Row
+table w =
+    choose (ltb w 18) (Some (get_or (map tag_row tags) w (tag_row if_tag)))
+    (choose (ltb w 32) None (Some (get_or (map type_tag_row type_tags) (w - 32) (type_tag_row function_tag))))
+
 pub no_row_between : (w : ℕ) → 18 ≤ w → w < 32 → None ≡ row_of w
 unfolding row_of
 no_row_between w l h = rw (no_tag w l, no_type_tag w h) refl
@@ -73,6 +81,16 @@ no_row_between w l h = rw (no_tag w l, no_type_tag w h) refl
 pub no_row_past : (w : ℕ) → 38 ≤ w → None ≡ row_of w
 unfolding row_of
 no_row_past w h = rw (no_tag w (omega arith), past_type_tags w h) refl
+
+-- the table has the row of each word, and none between the two kinds
+pub table_row : (w : ℕ) → w < 38 → table w ≡ row_of w
+unfolding table
+table_row w h = go (dec_lt w 18) (dec_lt w 32)
+  where
+    go : Dec (w < 18) → Dec (w < 32) → table w ≡ row_of w
+    go (yes l) d = rw (lt-ltb w 18 l) (expression_row w _ l)
+    go (no l) (yes m) = rw (le-ltb w 18 (omega arith), lt-ltb w 32 m) (no_row_between w (omega arith) m)
+    go (no l) (no m) = rw (le-ltb w 18 (omega arith), le-ltb w 32 (omega arith)) (type_row w _ (omega arith) h)
 
 -- a tag is of one kind
 pub tag_type_tag : (w : ℕ) (t : Tag) → tag_of w ≡ some t → type_tag_of w ≡ none
