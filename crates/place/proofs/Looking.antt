@@ -1,13 +1,16 @@
 -- A look at a node of words: the tags that stand there are the tree's, the child that decides, and a law for each way
 -- through `look`.
 use Prim.Native.Nat.{ℕ, ◌+◌, ◌<◌}
-use mathlib.Core.Path.{subst as along, ◌≡◌, refl, sym, ◌∙◌}
+use mathlib.Core.Path.{subst as along, ◌≡◌, refl, sym, ap, ◌∙◌}
 use mathlib.Core.Logic.{inl, inr}
 use lib.Dec.{leb}
 use mathlib.Core.Bool.{Bool, true, false}
 use mathlib.Core.List.{List, []}
 use native.Mathlib.Omega.{arith}
-use lib.ListN.{length, get_or}
+use native.Mathlib.Nat.{add-zero}
+use lib.ListN.{length, get_or, get_or-append, length-drop, length-append}
+use lib.Seq.{get_or-drop}
+use Rattle.words.proofs.Ends.{words_long}
 use Rattle.calculus.specs.Expressions.{Expression, constant, leaf, lambda, one, two, if, One, Two}
 use Rattle.calculus.specs.Words.{words}
 use Rattle.calculus.specs.Formed.{Formed, value}
@@ -22,26 +25,19 @@ use Rattle.place.specs.declared.Move.TheVariants.{Enter, IsValue, IsRedex, IsStu
 use Rattle.place.specs.Search.{top_tag, asks_second, FirstTag, SecondTag, is_some, TagAt, RedexBy, ChildAt}
 use Rattle.place.specs.Search.{Decides, Enters, Looks}
 use Rattle.place.proofs.Tags.{told_value, told_known}
-use Rattle.place.proofs.Nodes.{differ, place_value, place_redex, stuck_first, enter_first, stuck_second, enter_second}
+use Rattle.place.proofs.Nodes.{place_value, place_redex, stuck_first, enter_first, stuck_second, enter_second}
 
 -- the tags that stand there
 pub inside : (s : List ℕ) (p : ℕ) (e : Expression) → Stands s p (words e) → p < length s
-unfolding words
-inside s p (constant c) h = (headed h).inside
-inside s p (leaf k n) h = (headed h).inside
-inside s p (lambda x A e) h = (headed h).inside
-inside s p (one o a) h = (headed h).inside
-inside s p (two o a b) h = (headed h).inside
-inside s p (if a b c) h = (headed h).inside
+inside s p e h = omega (arith, words_long e, simp (length-drop, length-append) at (ap length h.eq))
 
 top_at : (s : List ℕ) (p : ℕ) (e : Expression) → Stands s p (words e) → get_or s p 0 ≡ top_tag e
-unfolding top_tag words
-top_at s p (constant c) h = (headed h).is
-top_at s p (leaf k n) h = (headed h).is
-top_at s p (lambda x A e) h = (headed h).is
-top_at s p (one o a) h = (headed h).is
-top_at s p (two o a b) h = (headed h).is
-top_at s p (if a b c) h = (headed h).is
+unfolding top_tag
+top_at s p e h =
+    ap (λ i. get_or s i 0) (sym (add-zero p))
+    ∙ sym (get_or-drop p s 0 0)
+    ∙ ap (λ l. get_or l 0 0) h.eq
+    ∙ get_or-append (words e) h.rest 0 0 (words_long e)
 
 module _ (s : List ℕ) (p : ℕ) where
   one_first : (o : One) (a : Expression) → Stands s p (words (one o a)) → Stands s (p + 1) (words a)
@@ -76,9 +72,9 @@ tagged s p e h (inr l) = let k = told_known e (top_at s p e h) in omega arith
 
 first_tagged : (s : List ℕ) (p : ℕ) (e : Expression) → value e ≡ false → Stands s p (words e)
     → TagAt s (p + 1) None → ⊥
-first_tagged s p (constant c) i h n = differ i
-first_tagged s p (leaf k m) i h n = differ i
-first_tagged s p (lambda x A e) i h n = differ i
+first_tagged s p (constant c) i h n = cc
+first_tagged s p (leaf k m) i h n = cc
+first_tagged s p (lambda x A e) i h n = cc
 first_tagged s p (one o a) i h n = tagged s (p + 1) a (one_first s p o a h) n
 first_tagged s p (two o a b) i h n = tagged s (p + 1) a (two_first s p o a b h) n
 first_tagged s p (if a b c) i h n = tagged s (p + 1) a (if_first s p a b c h) n
@@ -94,9 +90,9 @@ record Deciding (s : List ℕ) (p : ℕ) (e : Expression) (q : ℕ) : Type 0 whe
 module _ (s : List ℕ) (p q : ℕ) where
   first_decides : (e : Expression) → value e ≡ false → false ≡ asks_second e → q ≡ p + 1 → Stands s p (words e)
       → Deciding s p e q
-  first_decides (constant c) i a is h = differ i
-  first_decides (leaf k m) i a is h = differ i
-  first_decides (lambda x A e) i a is h = differ i
+  first_decides (constant c) i a is h = cc
+  first_decides (leaf k m) i a is h = cc
+  first_decides (lambda x A e) i a is h = cc
   first_decides (one o b) i a is h =
       record {
         child = b;
@@ -125,10 +121,10 @@ module _ (s : List ℕ) (p q : ℕ) where
   second_decides : (e : Expression) → true ≡ asks_second e → EndsAt s (p + 1) q → Formed e → Stands s p (words e)
       → Deciding s p e q
   unfolding Formed
-  second_decides (constant c) a ends f h = differ a
-  second_decides (leaf k m) a ends f h = differ a
-  second_decides (lambda x A e) a ends f h = differ a
-  second_decides (one o b) a ends f h = differ a
+  second_decides (constant c) a ends f h = cc
+  second_decides (leaf k m) a ends f h = cc
+  second_decides (lambda x A e) a ends f h = cc
+  second_decides (one o b) a ends f h = cc
   second_decides (two o b c) a ends f h =
       let is = ends.ends b f.0 (two_first s p o b c h) in
       record {
@@ -144,7 +140,7 @@ module _ (s : List ℕ) (p q : ℕ) where
           at = omega arith;
         };
       }
-  second_decides (if b c d) a ends f h = differ a
+  second_decides (if b c d) a ends f h = cc
 
   decides : (x : Bool) → ChildAt s (p + 1) x q → (e : Expression) → x ≡ asks_second e → value e ≡ false → Formed e
       → Stands s p (words e) → Deciding s p e q

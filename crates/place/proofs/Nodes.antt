@@ -4,7 +4,6 @@ use mathlib.Core.Path.{◌≡◌, refl, sym}
 use mathlib.Core.Bool.{Bool, true, false, cond}
 use mathlib.Core.Option.{Option, none, some}
 use mathlib.Core.List.{[]}
-use native.Mathlib.Omega.{arith}
 use Rattle.calculus.specs.Expressions.{Leaf, Expression, constant, leaf, lambda, one, two, if}
 use Rattle.calculus.specs.Expressions.{Two, apply, assign, arithmetic, location, number}
 use Rattle.calculus.specs.Formed.{value}
@@ -13,12 +12,9 @@ use Rattle.calculus.specs.Places.{present, enters_second, only, first_of, second
 use Rattle.calculus.specs.Places.{Place, is_value, works_at, stuck_at, under, or_elsewhere, place}
 use Rattle.place.specs.Search.{asks_second, is_some, Enters}
 
-pub differ : {C : Type 0} → true ≡ false → C
-differ e = absurd (let z : ◌≡◌ {A = ℕ} 0 1 = cc in omega arith)
-
 is_none : {A : Type 0} (m : Option A) → false ≡ is_some m → m ≡ none
 is_none none e = refl
-is_none (some a) e = differ (cc)
+is_none (some a) e = cc
 
 -- a value; a redex
 pub place_value : (e : Expression) → value e ≡ true → place e ≡ is_value
@@ -26,19 +22,19 @@ unfolding place
 place_value (constant c) v = refl
 place_value (leaf k n) v = refl
 place_value (lambda x A e) v = refl
-place_value (one o a) v = differ (cc)
-place_value (two o a b) v = differ (cc)
-place_value (if a b c) v = differ (cc)
+place_value (one o a) v = cc
+place_value (two o a b) v = cc
+place_value (if a b c) v = cc
 
 found : (m : Option Redex) (p : Place) → true ≡ is_some m → (R : Redex) × (or_elsewhere m p ≡ works_at [] R)
-found none p e = differ e
+found none p e = cc
 found (some R) p e = (R, refl)
 
 pub place_redex : (e : Expression) → true ≡ is_some (redex e) → (R : Redex) × (place e ≡ works_at [] R)
 unfolding place
-place_redex (constant c) r = differ r
-place_redex (leaf k n) r = differ r
-place_redex (lambda x A e) r = differ r
+place_redex (constant c) r = cc
+place_redex (leaf k n) r = cc
+place_redex (lambda x A e) r = cc
 place_redex (one o a) r = found (redex_one o a) _ r
 place_redex (two o a b) r = found (redex_two o a b) _ r
 place_redex (if a b c) r = found (redex_if a b c) _ r
@@ -60,9 +56,9 @@ same_end false x = refl
 pub stuck_first : (e : Expression) → value e ≡ false → false ≡ is_some (redex e) → false ≡ asks_second e
     → FirstValue e true → place e ≡ stuck_at [] e
 unfolding place
-stuck_first (constant c) i n ask v = differ i
-stuck_first (leaf k m) i n ask v = differ i
-stuck_first (lambda x A e) i n ask v = differ i
+stuck_first (constant c) i n ask v = cc
+stuck_first (leaf k m) i n ask v = cc
+stuck_first (lambda x A e) i n ask v = cc
 stuck_first (one o a) i n ask v = rw (is_none (redex_one o a) n, v)
 stuck_first (two o a b) i n ask v =
     rw (is_none (redex_two o a b) n, v, ← ask) (same_end (value b) (stuck_at [] (two o a b)))
@@ -71,9 +67,9 @@ stuck_first (if a b c) i n ask v = rw (is_none (redex_if a b c) n, v)
 pub enter_first : (p : ℕ) (e : Expression) → value e ≡ false → false ≡ is_some (redex e) → FirstValue e false
     → Enters p e (p + 1)
 unfolding place
-enter_first p (constant c) i n v = differ i
-enter_first p (leaf k m) i n v = differ i
-enter_first p (lambda x A e) i n v = differ i
+enter_first p (constant c) i n v = cc
+enter_first p (leaf k m) i n v = cc
+enter_first p (lambda x A e) i n v = cc
 enter_first p (one o a) i n v =
     record { frame = only o; child = a; whole = refl; same = rw (is_none (redex_one o a) n, v); at = refl }
 enter_first p (two o a b) i n v =
@@ -86,9 +82,9 @@ leaf_value : (k : Leaf) (e : Expression) → true ≡ present (as_leaf k e) → 
 leaf_value k (constant c) t = refl
 leaf_value k (leaf j n) t = refl
 leaf_value k (lambda x A e) t = refl
-leaf_value k (one o a) t = differ t
-leaf_value k (two o a b) t = differ t
-leaf_value k (if a b c) t = differ t
+leaf_value k (one o a) t = cc
+leaf_value k (two o a b) t = cc
+leaf_value k (if a b c) t = cc
 
 first_value : (o : Two) (a : Expression) → true ≡ enters_second o a → value a ≡ true
 first_value apply a t = sym t

@@ -11,9 +11,9 @@ use Rattle.calculus.specs.Places.{Frame, Place, is_value, works_at, stuck_at, un
 use Rattle.image.specs.Standing.{Stands}
 use Rattle.image.proofs.Standing.{stands_left, stands_right, stands_at, stands_as}
 use Rattle.place.specs.declared.Move.{Move}
-use Rattle.place.specs.declared.Move.TheVariants.{Enter, IsValue, IsRedex, IsStuck}
+use Rattle.place.specs.declared.Move.TheVariants.{Enter, IsRedex, IsStuck}
 use Rattle.place.specs.declared.Spot.{Spot}
-use Rattle.place.specs.declared.Spot.TheVariants.{Value, RedexAt, StuckAt}
+use Rattle.place.specs.declared.Spot.TheVariants.{RedexAt, StuckAt}
 use Rattle.place.specs.Search.{leading, trailing, prefix, Finds, Forward, Looks, spot_of, Placed}
 use Rattle.place.proofs.Contexts.{words_fill, formed_child}
 
@@ -65,14 +65,6 @@ module _ (s : List ℕ) (at p : ℕ) (g : Going s at p) where
                   ∙ spot_under p a (place c)
                   ∙ ap (λ i. spot_of i (place c)) (sym n.at);
             }
-
-    pub stop_value : m ≡ IsValue → Placed s at Value
-    stop_value z =
-        record {
-          answer = λ e f h.
-              let v = g.sees e f h in
-              sym (v.same ∙ ap (spot_of p) (finds IsValue z v.tree v.formed v.stands));
-        }
 
     pub stop_redex : m ≡ IsRedex → Placed s at (RedexAt p)
     stop_redex z =

@@ -1,7 +1,7 @@
 -- An expression as its head (tag, own word, type) and its children, in words and in substitution; and the head read.
 use Prim.Native.Nat.{ℕ, ◌+◌, ◌<◌, ◌≤◌}
 use mathlib.Core.Path.{◌≡◌, refl, sym, ap, ◌∙◌}
-use mathlib.Core.Bool.{true, false}
+use mathlib.Core.Bool.{false}
 use Rattle.std.specs.Prelude.{Some, None}
 use mathlib.Core.List.{List, [], ◌∷◌, ◌++◌, append-nil}
 use mathlib.Core.Option.{some}
@@ -20,12 +20,12 @@ use Rattle.calculus.proofs.Options.{some_inj}
 use Rattle.calculus.proofs.Reading.{tag_of_tag_word}
 use Rattle.words.specs.declared.table.Kind.TheVariants.{Expression as ExpressionKind}
 use Rattle.words.specs.Rows.{tag_row}
-use Rattle.words.specs.Walks.{front_of, front, types_end, is_kind}
+use Rattle.words.specs.Walks.{front_of, front, types_end}
 use Rattle.words.specs.Names.{all_words, AllFormed}
-use Rattle.words.proofs.Fronts.{front_bare, front_fine}
+use Rattle.words.proofs.TagFronts.{bare_front, fine_front}
 use Rattle.words.proofs.Ends.{end_type_words}
 use Rattle.words.proofs.Pending.{one_type_lem}
-use Rattle.words.proofs.Standing.{head_tag, below, row_of_tag}
+use Rattle.words.proofs.Standing.{head_tag, below}
 use Rattle.image.specs.Standing.{Stands}
 use Rattle.image.proofs.Standing.{headed, stands_left}
 use Rattle.substitute.specs.Substitutes.{all_substituted, Named}
@@ -134,39 +134,31 @@ tag_same t u e = some_inj (sym (tag_of_tag_word t) ∙ ap tag_of e ∙ tag_of_ta
 pub lambda_tagged : (e : Expression) → tag_word (head_tag e) ≡ 7
     → (y : ℕ) × (A : ScriptType) × (d : Expression) × (e ≡ lambda y A d)
 lambda_tagged (constant c) h =
-    let t = tag_same (constant_tag c) lambda_tag h in absurd (let z : ◌≡◌ {A = ℕ} 0 1 = cc in omega arith)
+    let t = tag_same (constant_tag c) lambda_tag h in cc
 lambda_tagged (leaf k n) h =
-    let t = tag_same (leaf_tag k) lambda_tag h in absurd (let z : ◌≡◌ {A = ℕ} 0 1 = cc in omega arith)
+    let t = tag_same (leaf_tag k) lambda_tag h in cc
 lambda_tagged (lambda y A d) h = (y, A, d, refl)
 lambda_tagged (one o e) h =
-    let t = tag_same (one_tag o) lambda_tag h in absurd (let z : ◌≡◌ {A = ℕ} 0 1 = cc in omega arith)
+    let t = tag_same (one_tag o) lambda_tag h in cc
 lambda_tagged (two o a b) h =
-    let t = tag_same (two_tag o) lambda_tag h in absurd (let z : ◌≡◌ {A = ℕ} 0 1 = cc in omega arith)
+    let t = tag_same (two_tag o) lambda_tag h in cc
 lambda_tagged (if a b c) h =
-    let t = tag_same if_tag lambda_tag h in absurd (let z : ◌≡◌ {A = ℕ} 0 1 = cc in omega arith)
+    let t = tag_same if_tag lambda_tag h in cc
 
 -- the front and the types of a tree that stands at `at`
-tag_kind : (t : Tag) → is_kind (tag_row t).kind ExpressionKind ≡ true
-tag_kind (constant_tag c) = refl
-tag_kind (leaf_tag k) = refl
-tag_kind lambda_tag = refl
-tag_kind (one_tag o) = refl
-tag_kind (two_tag o) = refl
-tag_kind if_tag = refl
+tag_there : {w : ℕ} (t : Tag) → w ≡ tag_word t → tag_of w ≡ some t
+tag_there t e = ap tag_of e ∙ tag_of_tag_word t
 
 bare : (s : List ℕ) (at : ℕ) (t : Tag) (ws : List ℕ) → Stands s at (tag_word t ∷ ws) → (tag_row t).limit ≡ None
     → front_of s ExpressionKind at ≡ Some (front (tag_row t) (at + 1))
-bare s at t ws h l =
-    let g = headed h in
-    sym (front_bare s ExpressionKind at g.inside (tag_word t) (sym g.is) (tag_row t) (sym (row_of_tag t)) (tag_kind t) l)
+bare s at t ws h l = let g = headed h in bare_front s at g.inside t (tag_there t g.is) l
 
 owned : (s : List ℕ) (at : ℕ) (t : Tag) (n b : ℕ) (ws : List ℕ) → Stands s at (tag_word t ∷ n ∷ ws)
     → (tag_row t).limit ≡ Some b → n < b → front_of s ExpressionKind at ≡ Some (front (tag_row t) (at + 1 + 1))
 owned s at t n b ws h z l =
     let g = headed h in
     let k = headed g.more in
-    sym (front_fine s ExpressionKind at g.inside (tag_word t) (sym g.is) (tag_row t) (sym (row_of_tag t)) (tag_kind t) b z
-    k.inside n (sym k.is) l)
+    fine_front s at g.inside t (tag_there t g.is) b z k.inside (omega (arith, k.is))
 
 pub record Met (s : List ℕ) (at : ℕ) (e : Expression) : Type 0 where
   pub next : ℕ

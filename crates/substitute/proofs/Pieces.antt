@@ -68,7 +68,7 @@ pub piece_wrong : (s : List ℕ) (at : ℕ) (i : Filling) → None ≡ front_of 
     → r ≡ None → PieceAt s at i r
 piece_wrong s at i q r z =
     along (PieceAt s at i) (sym z)
-    (λ e g h. let m = (met s at e g h).front in let z : ◌≡◌ {A = ℕ} 0 1 = cc in omega arith)
+    (λ e g h. let m = (met s at e g h).front in cc)
 
 module _ (s : List ℕ) (at : ℕ) (i : Filling) (f : Front) (q : Some f ≡ front_of s ExpressionKind at) where
   -- the front that was read is that of the expression that stands there

@@ -1,6 +1,6 @@
 -- One node and its children, the loop of `replace` over expressions that stand one after the other, and the whole.
 use Prim.Native.Nat.{ℕ, ◌+◌, ◌-◌, ◌<◌, ◌≤◌}
-use mathlib.Core.Path.{subst as along, ◌≡◌, refl, sym, ap, ◌∙◌}
+use mathlib.Core.Path.{◌≡◌, refl, sym, ap, ◌∙◌}
 use mathlib.Core.List.{List, [], ◌∷◌, ◌++◌, append_assoc, append-nil}
 use native.Mathlib.Omega.{arith}
 use lib.ListN.{length, length-append, length-drop}
@@ -12,46 +12,21 @@ use Rattle.words.specs.Names.{all_words, AllFormed}
 use Rattle.words.proofs.Ends.{words_long}
 use Rattle.image.specs.Standing.{Stands}
 use Rattle.image.proofs.Standing.{stands_left, stands_right, stands_at, stands_as}
-use Rattle.write.specs.Cursor.{part, Wrote}
-use Rattle.write.proofs.Cursors.{wrote_size, wrote_nil, wrote_as, then}
-use Rattle.std.specs.Prelude.{Option, Some, None}
-use Rattle.std.specs.Option.{unwrap_or}
+use Rattle.write.specs.Cursor.{Wrote}
+use Rattle.write.proofs.Cursors.{wrote_nil, wrote_as, then}
 use Rattle.substitute.specs.declared.Filling.{Filling}
 use Rattle.substitute.specs.declared.Children.{Children}
-use Rattle.substitute.specs.declared.Piece.{Piece}
 use Rattle.substitute.specs.declared.Opened.{Opened}
-use Rattle.substitute.specs.declared.Replaced.{Replaced}
-use Rattle.substitute.specs.Substitutes.{all_substituted, filled, PieceOf, PieceAt, WritesNode}
+use Rattle.substitute.specs.declared.Reached.{Reached}
+use Rattle.substitute.specs.Substitutes.{all_substituted, filled, WritesNode}
 use Rattle.substitute.specs.Substitutes.{AllReplaced, Replaces, Substitutes}
 
--- nothing is written where no node stands, and nothing is left to read
-abbrev pub nothing : List ℕ → Piece
-nothing s = record { words = record { start = 0; end = 0 }; children = record { at = length s; count = 0 } }
-
-pub some_piece : (s : List ℕ) (at : ℕ) (f : Filling) (r : Option Piece) (p d : Piece) → PieceAt s at f r
-    → p ≡ unwrap_or r d → d.words.end ≤ length s → PieceOf s at f p
-some_piece s at f (Some q) p d h e k = along (PieceOf s at f) (sym e) h
-some_piece s at f None p d h e k =
-    along (PieceOf s at f) (sym e) (record { high = k; cut = λ e v g st w. absurd (h e g st) })
-
--- a piece that was copied
-pub node_written : (s : List ℕ) (at : ℕ) (f : Filling) (o : List ℕ) (to : ℕ) (p : Piece) (r : ℕ) (o' : List ℕ)
-    → PieceOf s at f p → Wrote (part s p.words.start p.words.end) o to r o'
-    → WritesNode s at f o to (record { children = p.children; to = r }) o'
-node_written s at f o to p r o' c w =
-    record {
-      high = (wrote_size w).1;
-      same = (wrote_size w).0;
-      node = λ e v g h q.
-          record { written = part s p.words.start p.words.end; wrote = w; cut = c.cut e v g h q };
-    }
-
 -- a node that was written, and then the expressions inside it: the whole expression
-record OneReplaced (at x : ℕ) (v e : Expression) (o : List ℕ) (to : ℕ) (r : Replaced) (o' : List ℕ) : Type 0 where
+record OneReplaced (at x : ℕ) (v e : Expression) (o : List ℕ) (to : ℕ) (r : Reached) (o' : List ℕ) : Type 0 where
   pub read : r.read ≡ at + length (words e)
   pub wrote : Wrote (words (substituted x v e)) o to r.to o'
 
-one_replaced : (s : List ℕ) (at : ℕ) (f : Filling) (o : List ℕ) (to left : ℕ) (q : Opened) (o₁ : List ℕ) (r : Replaced)
+one_replaced : (s : List ℕ) (at : ℕ) (f : Filling) (o : List ℕ) (to left : ℕ) (q : Opened) (o₁ : List ℕ) (r : Reached)
     (o₂ : List ℕ) → WritesNode s at f o to q o₁ → Replaces s q.children f o₁ q.to left r o₂
     → (e v : Expression) → Formed e → Stands s at (words e) → length (words e) ≤ left + 1 → filled s f ≡ words v
     → OneReplaced at f.x v e o to r o₂
@@ -67,7 +42,7 @@ one_replaced s at f o to left q o₁ r o₂ n all e v g h l i =
     record { read = omega arith; wrote = wrote_as (sym c.result) (then w.wrote k.wrote) }
 
 -- the loop: of the expressions `done` are done, and the others stand where the reading is
-pub record Rest (at x : ℕ) (v : Expression) (es : List Expression) (o : List ℕ) (to : ℕ) (r : Replaced) (o' : List ℕ)
+pub record Rest (at x : ℕ) (v : Expression) (es : List Expression) (o : List ℕ) (to : ℕ) (r : Reached) (o' : List ℕ)
     (done : ℕ) (others : List Expression) : Type 0 where
   pub passed : List ℕ
   pub written : List ℕ
@@ -78,7 +53,7 @@ pub record Rest (at x : ℕ) (v : Expression) (es : List Expression) (o : List �
   pub read : r.read ≡ at + length passed
   pub wrote : Wrote written o to r.to o'
 
-pub record Turning (s : List ℕ) (n : Children) (f : Filling) (o : List ℕ) (to left : ℕ) (r : Replaced) (o' : List ℕ)
+pub record Turning (s : List ℕ) (n : Children) (f : Filling) (o : List ℕ) (to left : ℕ) (r : Reached) (o' : List ℕ)
     (done : ℕ) : Type 0 where
   pub high : r.to ≤ length o + 1
   pub same : length o' ≡ length o
@@ -86,28 +61,7 @@ pub record Turning (s : List ℕ) (n : Children) (f : Filling) (o : List ℕ) (t
       → length (all_words es) ≤ left → filled s f ≡ words v
       → (others : List Expression) × Rest n.at f.x v es o to r o' done others
 
-pub turning_start : (s : List ℕ) (n : Children) (f : Filling) (o : List ℕ) (to left : ℕ) → to ≤ length o + 1
-    → Turning s n f o to left (record { read = n.at; to = to }) o 0
-turning_start s n f o to left h =
-    record {
-      high = h;
-      same = refl;
-      sees = λ es v g st c l i. (
-        es,
-        record {
-          passed = [];
-          written = [];
-          whole = refl;
-          result = refl;
-          formed = g;
-          count = omega arith;
-          read = omega arith;
-          wrote = wrote_nil o to h;
-        },
-      );
-    }
-
-module _ (s : List ℕ) (n : Children) (f : Filling) (o : List ℕ) (to left : ℕ) (r : Replaced) (o' : List ℕ) (done : ℕ)
+module _ (s : List ℕ) (n : Children) (f : Filling) (o : List ℕ) (to left : ℕ) (r : Reached) (o' : List ℕ) (done : ℕ)
     (t : Turning s n f o to left r o' done) where
   pub turning_done : n.count ≤ done → Replaces s n f o to left r o'
   unfolding all_words all_substituted
@@ -130,7 +84,7 @@ module _ (s : List ℕ) (n : Children) (f : Filling) (o : List ℕ) (to left : �
       ends es v c (e ∷ others) k = absurd (omega (arith, k.count))
 
   -- one expression more
-  pub turning_again : done < n.count → (left ≡ 0 → ⊥) → (q : Opened) (o₁ : List ℕ) (r₁ : Replaced) (o₂ : List ℕ)
+  pub turning_again : done < n.count → (left ≡ 0 → ⊥) → (q : Opened) (o₁ : List ℕ) (r₁ : Reached) (o₂ : List ℕ)
       → WritesNode s r.read f o' r.to q o₁
       → Replaces s q.children f o₁ q.to (left - 1) r₁ o₂
       → Turning s n f o to left r₁ o₂ (done + 1)
@@ -188,7 +142,7 @@ none_left s n f o to left z h =
     none (e ∷ es) v l = absurd (omega (arith, words_long e, length-append (words e) (all_words es)))
 
 -- the whole: an expression is not longer than the words in which it stands
-pub substitutes : (s : List ℕ) (at x a b : ℕ) (o : List ℕ) (to : ℕ) (q : Opened) (o₁ : List ℕ) (r : Replaced)
+pub substitutes : (s : List ℕ) (at x a b : ℕ) (o : List ℕ) (to : ℕ) (q : Opened) (o₁ : List ℕ) (r : Reached)
     (o₂ : List ℕ) → WritesNode s at (record { x = x; from = a; end = b }) o to q o₁
     → Replaces s q.children (record { x = x; from = a; end = b }) o₁ q.to (length s) r o₂
     → Substitutes s at x a b o to r.to o₂

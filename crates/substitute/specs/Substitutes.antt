@@ -11,7 +11,7 @@ use Rattle.substitute.specs.declared.Filling.{Filling}
 use Rattle.substitute.specs.declared.Children.{Children}
 use Rattle.substitute.specs.declared.Piece.{Piece}
 use Rattle.substitute.specs.declared.Opened.{Opened}
-use Rattle.substitute.specs.declared.Replaced.{Replaced}
+use Rattle.substitute.specs.declared.Reached.{Reached}
 
 -- v for each free x in each of the expressions
 unfoldable pub all_substituted : ℕ → Expression → List Expression → List Expression
@@ -61,12 +61,12 @@ pub record WritesNode (s : List ℕ) (at : ℕ) (f : Filling) (o : List ℕ) (to
       → NodeWritten at f.x v e o to r o'
 
 -- the expressions were read and written
-pub record AllReplaced (at x : ℕ) (v : Expression) (es : List Expression) (o : List ℕ) (to : ℕ) (r : Replaced)
+pub record AllReplaced (at x : ℕ) (v : Expression) (es : List Expression) (o : List ℕ) (to : ℕ) (r : Reached)
     (o' : List ℕ) : Type 0 where
   pub read : r.read ≡ at + length (all_words es)
   pub wrote : Wrote (all_words (all_substituted x v es)) o to r.to o'
 
-pub record Replaces (s : List ℕ) (n : Children) (f : Filling) (o : List ℕ) (to left : ℕ) (r : Replaced) (o' : List ℕ)
+pub record Replaces (s : List ℕ) (n : Children) (f : Filling) (o : List ℕ) (to left : ℕ) (r : Reached) (o' : List ℕ)
     : Type 0 where
   pub high : r.to ≤ length o + 1
   pub same : length o' ≡ length o

@@ -57,9 +57,9 @@ fn is_named(s: &[u16], at: usize, tag: Tag, x: u16) -> bool
 
 // The piece of the node at `at`: for the variable the value, a lambda of it as it stands, and of any other node its
 // tag, own word and type, and then its children.
-fn piece_at(s: &[u16], at: usize, filling: Filling) -> Option<Piece>
-    requires { filling.end ≤ length s.now }
-    ensures { PieceAt s.now at filling result }
+fn piece_at(s: &[u16], at: usize, filling: &Filling) -> Option<Piece>
+    requires { filling.now.end ≤ length s.now }
+    ensures { PieceAt s.now at filling.now result }
 {
     let front = front_at(s, Kind::Expression, at)?;
     if is_named(s, at, Tag::Variable, filling.x) {
@@ -79,6 +79,13 @@ fn piece_at(s: &[u16], at: usize, filling: Filling) -> Option<Piece>
     })
 }
 
+// Where the reading is, and the cursor.
+#[derive(Clone, Copy)]
+pub struct Reached {
+    pub read: usize,
+    pub to: usize,
+}
+
 // A node's piece is written: its children are still to be, at the cursor.
 #[derive(Clone, Copy)]
 pub struct Opened {
@@ -86,50 +93,36 @@ pub struct Opened {
     pub to: usize,
 }
 
-// Writes the piece of the node at `at`; where none stands it is empty, and the reading is over. Two functions call it,
-// so that its stack stays out of the recursion.
-fn write_node(s: &[u16], at: usize, filling: Filling, out: &mut [u16], to: usize) -> Opened
-    requires { filling.end ≤ length s.now }
-    ensures { WritesNode s.now at filling out.old to result out.new }
+// Writes the piece of the node where the reading is; where none stands it is empty, and the reading is over. Two
+// functions call it, so that its stack stays out of the recursion.
+fn write_node(s: &[u16], at: Reached, filling: &Filling, out: &mut [u16]) -> Opened
+    requires { filling.now.end ≤ length s.now }
+    ensures { WritesNode s.now at.read filling.now out.old at.to result out.new }
 {
-    let piece = piece_at(s, at, filling).unwrap_or(Piece::bare(0..0, s.len()));
+    let piece = piece_at(s, at.read, filling).unwrap_or(Piece::bare(0..0, s.len()));
     let children = piece.children;
-    let to = copy_part(s, piece.words, out, to);
+    let to = copy_part(s, piece.words, out, at.to);
     Opened { children, to }
 }
 
-// Where the reading ended, and the cursor.
-#[derive(Clone, Copy)]
-pub struct Replaced {
-    pub read: usize,
-    pub to: usize,
-}
-
-// Writes the expressions with the value for each free variable. Calls itself for the children of each; `left` is at
-// least the count of the words that remain, and falls with each call.
-fn replace(
-    s: &[u16],
-    expressions: Children,
-    filling: Filling,
-    out: &mut [u16],
-    to: usize,
-    left: usize,
-) -> Replaced
-    requires { (filling.end ≤ length s.now) × (to ≤ length out.old + 1) }
-    ensures { Replaces s.now expressions filling out.old to left result out.new }
+// Writes the children of a node with the value for each free variable. Calls itself for the children of each; `left` is
+// at least the count of the words that remain, and falls with each call.
+fn replace(s: &[u16], node: &Opened, filling: &Filling, out: &mut [u16], left: usize) -> Reached
+    requires { (filling.now.end ≤ length s.now) × (node.now.to ≤ length out.old + 1) }
+    ensures { Replaces s.now node.now.children filling.now out.old node.now.to left result out.new }
 {
-    let mut done = Replaced {
-        read: expressions.at,
-        to,
+    let mut at = Reached {
+        read: node.children.at,
+        to: node.to,
     };
     if left == 0 {
-        return done;
+        return at;
     }
-    for _ in 0..expressions.count {
-        let node = write_node(s, done.read, filling, out, done.to);
-        done = replace(s, node.children, filling, out, node.to, left - 1);
+    for _ in 0..node.children.count {
+        let child = write_node(s, at, filling, out);
+        at = replace(s, &child, filling, out, left - 1);
     }
-    done
+    at
 }
 
 // Writes the expression at `at` with the words of s in the range `value` for each free variable x, and answers the
@@ -145,11 +138,11 @@ pub fn substitute(
     requires { value.end ≤ length s.now }
     ensures { Substitutes s.now at x value.start value.end out.old to result out.new }
 {
-    let filling = Filling {
+    let filling = &Filling {
         x,
         from: value.start,
         end: value.end,
     };
-    let node = write_node(s, at, filling, out, to);
-    replace(s, node.children, filling, out, node.to, s.len()).to
+    let node = write_node(s, Reached { read: at, to }, filling, out);
+    replace(s, &node, filling, out, s.len()).to
 }

@@ -6,7 +6,7 @@ use mathlib.Core.List.{List, [], ◌∷◌, ◌++◌, append_assoc}
 use native.Mathlib.Nat.{add-zero, add-suc, suc-add}
 use native.Mathlib.Decide.{dec_lt}
 use native.Mathlib.Omega.{arith}
-use lib.ListN.{length, set, take, drop, length-take, length-drop, length-append, take-append-drop}
+use lib.ListN.{length, set, take, drop, length-take, length-append, take-append-drop}
 use lib.Seq.{sets, length-sets, set_out, set_comm, set-set, drop-drop}
 use borrow.Rule.Slice.PartMut.{put_mid}
 use Rattle.std.proofs.lemmas.List.Edits.{sets-eq}
@@ -132,11 +132,6 @@ recount o to k z c r t o₁ o₂ o₃ ws w v f =
         ∙ sets_out o₁ k ws (omega arith)
         ∙ same
         ∙ sym (sets_out o to (c ∷ ws) (omega arith))
-
--- a part of other words
-pub part_length : (s : List ℕ) (a b : ℕ) → b ≤ length s → length (part s a b) ≡ b - a
-unfolding part
-part_length s a b h = simp (length-take, length-drop) (omega arith)
 
 -- what stands is that part
 pub part_stands : {s : List ℕ} {at : ℕ} {ws : List ℕ} (b : ℕ) → Stands s at ws → b ≡ at + length ws → part s at b ≡ ws

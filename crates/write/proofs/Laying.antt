@@ -1,6 +1,6 @@
 -- The loop of an overlay: what is written, what is left to write, and at last the count.
 use Prim.Native.Nat.{ℕ, suc, ◌+◌, ◌≤◌}
-use mathlib.Core.Path.{◌≡◌, refl, sym, ap, ◌∙◌}
+use mathlib.Core.Path.{◌≡◌, sym, ap, ◌∙◌}
 use mathlib.Core.List.{List, [], ◌∷◌, ◌++◌, append_assoc, append-nil}
 use native.Mathlib.Omega.{arith}
 use lib.ListN.{length}
@@ -11,7 +11,7 @@ use Rattle.write.specs.declared.overlay.Rest.{Rest}
 use Rattle.write.specs.declared.overlay.Turn.{Turn}
 use Rattle.write.specs.Cursor.{part, Wrote}
 use Rattle.write.specs.Overlay.{TwoStores, Turns, WroteOverlay}
-use Rattle.write.proofs.Cursors.{wrote_size, wrote_nil, wrote_as, then, recount}
+use Rattle.write.proofs.Cursors.{wrote_size, wrote_as, then, recount}
 
 -- `done` is written, and with the overlay of what is left it is all; so with the count
 pub record Remains (s o₀ : List ℕ) (to : ℕ) (o : List ℕ) (a b : Rest) (cursor count : ℕ) (all : Store) : Type 0 where
@@ -31,22 +31,6 @@ pub record Laid (s : List ℕ) (a₀ b₀ : Rest) (o₀ : List ℕ) (to : ℕ) (
   pub room : cursor ≤ length o + 1
   pub same : length o ≡ length o₀
   pub sees : (m n : Store) → TwoStores s a₀ b₀ m n → Remains s o₀ to o a b cursor count (overlaid m n)
-
--- before the first turn, after the word in whose place the count goes
-pub lay_start : (s : List ℕ) (a b : Rest) (o : List ℕ) (to k z : ℕ) (o₁ : List ℕ) → a.at ≤ length s → b.at ≤ length s
-    → a.count ≤ 256 → b.count ≤ 256 → Wrote (z ∷ []) o to k o₁ → Laid s a b o₁ k o₁ a b k 0
-lay_start s a b o to k z o₁ ha hb hm hn w =
-    let (e, h) = wrote_size w in
-    let room : k ≤ length o₁ + 1 = omega arith in
-    record {
-      high₁ = ha;
-      high₂ = hb;
-      few = omega arith;
-      room = room;
-      same = refl;
-      sees = λ m n st.
-          record { m = m; n = n; left = st; done = []; whole = refl; size = omega arith; wrote = wrote_nil o₁ k room };
-    }
 
 -- one entry more
 pub lay_turn : (s : List ℕ) (a₀ b₀ : Rest) (o₀ : List ℕ) (to : ℕ) (o : List ℕ) (a b : Rest) (k count : ℕ)

@@ -6,4 +6,4 @@ abbrev pub decreases-replace : goal.decreases-replace
 decreases-replace l = l.left
 
 abbrev pub invariant-loop : goal.invariant-loop
-invariant-loop l = Turning l.s l.fn.expressions l.filling l.initial.out l.to l.left l.done l.out l.counter
+invariant-loop l = Turning l.s l.node.children l.filling l.initial.out l.node.to l.left l.at l.out l.counter
