@@ -51,7 +51,7 @@ pub struct Turn {
     pub second: Rest,
 }
 
-fn advance(s: &[u16], first: Rest, second: Rest) -> Turn
+pub fn advance(s: &[u16], first: Rest, second: Rest) -> Turn
     requires { (first.at ≤ length s.now) × (second.at ≤ length s.now) × (0 < first.count + second.count) }
     ensures { Turns s.now first second result }
 {
