@@ -145,19 +145,6 @@ moved_over n work out h =
           (omega arith);
     }
 
-pub moved_no_room : (n : ℕ) (work out : List ℕ) → n ≤ length work → length out < n
-    → Delivers (To n) work out (Err NoRoom) out
-moved_no_room n work out h k =
-    record {
-      tells = λ o before size acted.
-          let t = to_next o before n work acted in
-          let l = cursor_length t.wrote size h in
-          told_kept (outcome_answer (length out) o) 9 out
-          (answer_next (length out) o t.state t.is
-          ∙ over_room (length out) (answer 0 (image t.state)) (omega arith))
-          (omega arith);
-    }
-
 pub moved : (n : ℕ) (work out out' : List ℕ) → n ≤ length work → n ≤ length out → Filled work n out out'
     → Delivers (To n) work out (Ok (stepped.Moved n)) out'
 moved n work out out' h k f =

@@ -1,5 +1,5 @@
 -- Loading a script: its refusals, and the image of the first state as it is written.
-use Prim.Native.Nat.{ℕ, zero, suc, ◌+◌, ◌-◌, ◌<◌, ◌≤◌}
+use Prim.Native.Nat.{ℕ, zero, suc, ◌+◌, ◌-◌, ◌≤◌}
 use mathlib.Core.Bool.{Bool, true, false}
 use mathlib.Core.List.{List, [], ◌∷◌, ◌++◌, append-nil}
 use mathlib.Core.Option.{Option, none, some}
@@ -30,7 +30,7 @@ use Rattle.engine.specs.Answers.{load_error, loaded_number, loaded_length}
 use Rattle.engine.specs.Parts.{Told, FirstTold}
 use Rattle.engine.specs.Promises.{LoadPromise}
 use Rattle.engine.proofs.Zeros.{cleared_all, cleared_size}
-use Rattle.engine.proofs.Telling.{fits, over_room, told_kept, told_written}
+use Rattle.engine.proofs.Telling.{fits, told_kept, told_written}
 use Rattle.engine.proofs.Delivering.{err_is}
 use Rattle.engine.proofs.Stepping.{right_work, wrong_work}
 
@@ -46,14 +46,6 @@ drop_zeros (suc k) (suc n) =
     let e : suc n - suc k ≡ n - k = omega arith in drop_zeros k n ∙ ap (λ i. replicate i 0) (sym e)
 
 -- one law for each way through the writing
-pub first_no_room : (ws out : List ℕ) → length out < length ws + 4 → FirstTold ws out (Err NoRoom) out
-first_no_room ws out h =
-    record {
-      told = told_kept (within (image_room (length out)) (answer 0 (1 ∷ 0 ∷ 0 ∷ 0 ∷ ws))) 9 out
-          (over_room (length out) (answer 0 (1 ∷ 0 ∷ 0 ∷ 0 ∷ ws)) (omega arith))
-          (omega arith);
-    }
-
 pub first_written : (ws out o₁ : List ℕ) (r : ℕ) (o₂ : List ℕ) (r' : ℕ) (o₃ : List ℕ) → length ws ≤ 2048
     → length ws + 4 ≤ length out → Cleared out 0 o₁ → Wrote (1 ∷ []) o₁ 0 r o₂
     → Wrote ws o₂ 4 r' o₃ → FirstTold ws out (Ok (length ws + 4)) o₃

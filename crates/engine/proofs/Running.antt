@@ -141,10 +141,6 @@ promised state n picks answers work x a state' answers' work' e p q f g h =
       cleared = h ∙ sym (ap (λ (y : Ran). y.work) e);
     }
 
--- the part of the state buffer that is tested has n words
-pub lent_part : (state : List ℕ) (n : ℕ) → length state ≡ 8192 → n ≤ 8192 → n ≡ length (take n state)
-lent_part state n s h = sym (length-take-le n state (omega arith))
-
 module _ (state : List ℕ) (n : ℕ) (picks answers work : List ℕ) where
   -- what a run comes to once its lengths are right
   abbrev inside : Ran

@@ -38,15 +38,6 @@ use Rattle.rules.proofs.Chunks.{stands_all, listed_here, redex_stands}
 use Rattle.rules.proofs.Redexes.{InTags, in_tags}
 
 -- by the tag
-pub work_at : {s : List ℕ} {site : Site} (tag k : ℕ) → tag ≡ get_or s site.place 0 → tag ≡ k
-    → Working (get_or s site.place 0) s site → Working k s site
-work_at {s} {site} tag k i e w = subst (λ t. Working t s site) (sym i ∙ e) w
-
-pub acts_at : {s : List ℕ} {site : Site} {o : List ℕ} {a : Result Moved Refusal} {o' : List ℕ} (tag k : ℕ) → tag ≡ get_or s site.place 0
-    → tag ≡ k
-    → Acts k s site o a o' → Acts (get_or s site.place 0) s site o a o'
-acts_at {s} {site} {o} {a} {o'} tag k i e w = subst (λ t. Acts t s site o a o') (sym e ∙ i) w
-
 pub work_in_tags : {s : List ℕ} {site : Site} (tag : ℕ) → tag ≡ get_or s site.place 0
     → Working (get_or s site.place 0) s site → InTags tag
 work_in_tags {s} {site} tag i k =
@@ -219,18 +210,6 @@ module _ (s : List ℕ) (r : ℕ) (k : Result ℕ ℕ) (f : Finds s r k) (o : Li
   here : k ≡ Ok at → (st : State) → Valid st → s ≡ image st → Section st r at
   here e st v i =
       let p = placed_hit (hits r st) _ at (sym e ∙ f.answer st v i) in record { hit = p.0; here = p.1 }
-
-  pub section_live : ValidImage s → k ≡ Ok at → LiveAt s r at
-  section_live v e =
-      record {
-        state = v.state;
-        valid = v.valid;
-        is = v.exactly;
-        section = here e v.state v.valid v.exactly;
-      }
-
-  pub steps_live : k ≡ Ok at → (a : Result Moved Refusal) (o' : List ℕ) → StepsAt s r at o a o' → Steps s r o a o'
-  steps_live e a o' w = record { acts = λ st v i. w.acts st v i (here e st v i) }
 
   pub steps_gone : k ≡ Err at → Steps s r o (Err NotLive) o
   unfolding step
