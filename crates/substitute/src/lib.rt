@@ -106,7 +106,8 @@ fn write_node(s: &[u16], at: Reached, filling: &Filling, out: &mut [u16]) -> Ope
 }
 
 // Writes the children of a node with the value for each free variable. Calls itself for the children of each; `left` is
-// at least the count of the words that remain, and falls with each call.
+// at least the count of the words that remain, and falls with each call. The node and what goes in are lent, which keeps
+// a call's stack small.
 fn replace(s: &[u16], node: &Opened, filling: &Filling, out: &mut [u16], left: usize) -> Reached
     requires { (filling.now.end ≤ length s.now) × (node.now.to ≤ length out.old + 1) }
     ensures { Replaces s.now node.now.children filling.now out.old node.now.to left result out.new }

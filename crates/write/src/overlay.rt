@@ -95,8 +95,9 @@ pub fn overlay_into(
     requires { (first.at ≤ length s.now) × (second.at ≤ length s.now) × (first.count ≤ 256) × (second.count ≤ 256) }
     ensures { WroteOverlay s.now first second out.old to result out.new }
 {
+    // The count is known at the end only: until then 0 keeps its place.
     let mut count: u16 = 0;
-    let mut cursor = put_word(out, to, 0);
+    let mut cursor = put_word(out, to, count);
     while 0 < first.count + second.count {
         let turn = advance(s, first, second);
         cursor = copy_part(s, turn.entry, out, cursor);
