@@ -84,6 +84,11 @@ module _ {A : Type 0} (w : A → List ℕ) (ok : A → Type 0) (top : ℕ) (each
             record { map = x; low = 0; listed = u; stand = d.more; count = omega arith; holds = refl };
       }
 
+  -- past the end of s no map stands
+  pub marking_none : (s : List ℕ) (at : ℕ) (m : List Bool) → length s ≤ at
+      → MarksAt (counted w) (Listed ok top 0) (in_map each) s at m m
+  marking_none s at m o = record { marks = λ x u h. let q = (headed h).inside in absurd (omega arith) }
+
   module _ (s : List ℕ) (at n : ℕ) (m₀ m : List Bool) (p i : ℕ) (g : Marking s at n m₀ m p i) where
     -- at the end of the map
     pub marking_done : n ≤ i → MarksAt (counted w) (Listed ok top 0) (in_map each) s at m₀ m

@@ -1,5 +1,5 @@
 // The numbers that an image takes, as marks: one walk over the items of its maps.
-ghost use Rattle.std.specs.Prelude.{◌≡◌, ◌≤◌, length};
+ghost use Rattle.std.specs.Prelude.{◌≡◌};
 ghost use Rattle.calculus.specs.Images.{cell_words, ValidCell, counted, Listed};
 ghost use Rattle.calculus.specs.Words.{words};
 ghost use Rattle.calculus.specs.Formed.{Formed};
@@ -8,7 +8,6 @@ ghost use Rattle.image.specs.Marks.{Taking, in_map, MarksOf, MarksAt};
 
 use crate::items::Item;
 use words::names::Marks;
-use words::reading::word_at;
 
 // Marks of the numbers that are taken.
 pub trait Taken: Marks {
@@ -29,11 +28,13 @@ pub trait Taken: Marks {
 
 // Sets the marks of the items whose count stands at `at`.
 pub fn mark_items<I: Item, M: Taken>(s: &[u16], at: usize, marks: &mut M)
-    requires { at ≤ length s.now }
     ensures { MarksAt (counted I.told_words) (Listed I.IsValid I.LARGEST 0) (in_map (I.taken M.taking))
         s.now at (M.marks marks.old) (M.marks marks.new) }
 {
-    let n = word_at(s, at);
+    if s.len() <= at {
+        return;
+    }
+    let n = s[at];
     let mut p = at + 1;
     for _ in 0..n {
         if s.len() <= p {
