@@ -1,5 +1,6 @@
 // The words that begin a node: the tags of expressions and those of types.
-ghost use Rattle.words.specs.Tags.{TagTold, TypeTagTold};
+ghost use Rattle.std.specs.Prelude.{◌≡◌, leb};
+ghost use Rattle.words.specs.Tags.{word_of, TagTold, TypeTagTold};
 
 // The first word of an expression, from 0.
 #[derive(Clone, Copy, PartialEq, Eq, Debug)]
@@ -25,7 +26,7 @@ pub enum Tag {
 }
 
 impl Tag {
-    // The tag that the word is.
+    // The tag that the word is. An Option and no TryFrom: an error could only say that the word is none.
     pub fn of(word: u16) -> Option<Tag>
         ensures { TagTold word result }
     {
@@ -51,6 +52,13 @@ impl Tag {
             _ => None,
         }
     }
+
+    // Is it the tag of a value? Those come first, up to the lambda's.
+    pub fn is_value(self) -> bool
+        ensures { result ≡ leb (word_of self) 7 }
+    {
+        self as u16 <= Tag::Lambda as u16
+    }
 }
 
 // The first word of a type, from 32.
@@ -65,7 +73,7 @@ pub enum TypeTag {
 }
 
 impl TypeTag {
-    // The tag that the word is.
+    // The tag that the word is, as Tag::of has it.
     pub fn of(word: u16) -> Option<TypeTag>
         ensures { TypeTagTold word result }
     {
