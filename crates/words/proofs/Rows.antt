@@ -14,12 +14,12 @@ use Rattle.calculus.specs.Tags.{Tag, constant_tag, leaf_tag, lambda_tag, one_tag
 use Rattle.calculus.specs.Tags.{TypeTag, basic_tag, reference_tag, function_tag, type_tags}
 use Rattle.calculus.specs.Reading.{tag_of, type_tag_of}
 use Rattle.calculus.proofs.Options.{none≢some}
-use Rattle.words.specs.declared.table.Kind.TheVariants.{Expression as ExpressionKind, «Type» as TypeKind}
+use Rattle.words.specs.declared.table.Kind.TheVariants.{Expression, «Type» as TypeKind}
 use Rattle.words.specs.declared.table.Row.{Row}
-use Rattle.words.specs.Rows.{tag_row, type_tag_row, type_row_if, row_if, row_of}
+use Rattle.words.specs.Rows.{row, tag_row, type_tag_row, type_row_if, row_if, row_of}
 
 -- the kind of a row says which table it came from
-pub tag_kind : (t : Tag) → (tag_row t).kind ≡ ExpressionKind
+pub tag_kind : (t : Tag) → (tag_row t).kind ≡ Expression
 tag_kind (constant_tag c) = refl
 tag_kind (leaf_tag k) = refl
 tag_kind lambda_tag = refl
@@ -68,11 +68,25 @@ unfolding row_of
 type_row w d l h =
     rw (no_tag w (omega arith), le-leb 32 w l) (type_tag_in type_tags (w - 32) (omega arith) d)
 
--- the two tables of the code, as one: from 0 those of expressions, from 32 those of types
+-- the code's two tables, written out
+unfoldable pub expressions : List Row
+expressions =
+    row Expression None 0 0 ∷ row Expression None 0 0 ∷ row Expression None 0 0 ∷ row Expression (Some 65536) 0 0
+    ∷ row Expression (Some 256) 0 0 ∷ row Expression (Some 256) 0 0 ∷ row Expression (Some 64) 0 0
+    ∷ row Expression (Some 256) 1 1 ∷ row Expression None 0 2 ∷ row Expression None 0 3 ∷ row Expression None 0 1
+    ∷ row Expression None 0 1 ∷ row Expression None 0 2 ∷ row Expression None 0 1 ∷ row Expression None 0 1
+    ∷ row Expression None 0 2 ∷ row Expression None 0 2 ∷ row Expression None 0 2 ∷ []
+
+unfoldable pub types : List Row
+types =
+    row TypeKind None 0 0 ∷ row TypeKind None 0 0 ∷ row TypeKind None 0 0 ∷ row TypeKind None 0 0
+    ∷ row TypeKind None 1 0 ∷ row TypeKind None 2 0 ∷ []
+
+-- what they have for a word: from 0 the rows of expressions, from 32 those of types
 unfoldable pub table : ℕ → Option Row
 table w =
-    choose (ltb w 18) (Some (get_or (map tag_row tags) w (tag_row if_tag)))
-    (choose (ltb w 32) None (Some (get_or (map type_tag_row type_tags) (w - 32) (type_tag_row function_tag))))
+    choose (ltb w 18) (Some (get_or expressions w (row Expression None 0 0)))
+    (choose (ltb w 32) None (Some (get_or types (w - 32) (row TypeKind None 0 0))))
 
 pub no_row_between : (w : ℕ) → 18 ≤ w → w < 32 → None ≡ row_of w
 unfolding row_of
@@ -84,7 +98,7 @@ no_row_past w h = rw (no_tag w (omega arith), past_type_tags w h) refl
 
 -- the table has the row of each word, and none between the two kinds
 pub table_row : (w : ℕ) → w < 38 → table w ≡ row_of w
-unfolding table
+unfolding table expressions types
 table_row w h = go (dec_lt w 18) (dec_lt w 32)
   where
     go : Dec (w < 18) → Dec (w < 32) → table w ≡ row_of w
