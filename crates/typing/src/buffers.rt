@@ -3,6 +3,7 @@ ghost use Rattle.std.specs.Prelude.{◌≡◌, ◌+◌, ◌^◌, ◌<◌, length
 ghost use Rattle.std.proofs.lemmas.List.Edits.{sets};
 
 // Writes w at i, or nothing past the end. By an index, since after `get_mut` a proof knows no element but the length.
+// Not the `mark` of words: that sets a bool, in marks alone, and this any word of a buffer.
 pub fn put(s: &mut [u16], i: usize, w: u16)
     ensures { s.new ≡ set s.old i w }
 {

@@ -1,5 +1,4 @@
 // The type of an expression: the check calls itself for each child, with fewer words left.
-ghost use Rattle.std.specs.Prelude.{◌≡◌};
 ghost use Rattle.typing.specs.Inferring.{Infers, Goes};
 
 use crate::CheckError;
@@ -9,7 +8,8 @@ use words::table::row_at;
 use words::tags::Tag;
 
 // The type of the expression at `at`, which has at most `left` words: a child has fewer than its parent.
-// A child's answer is taken apart by `let .. else`, a named form, and not by `?`.
+// `left` is counted down since it bounds the calls for any words, also those that are no expression.
+// A child's answer is taken apart by `let .. else`: a form that the project fixed for this place (docs/DECISIONS.md).
 #[cycle(infer_others)]
 pub fn infer(script: Script, at: u16, left: u16, work: &mut [u16]) -> Result<Typed, CheckError>
     ensures { Infers script.entry.words.now at left work.old result work.new }

@@ -1,5 +1,5 @@
 // The rules of the check, on types that are held as positions.
-ghost use Rattle.std.specs.Prelude.{◌≡◌, get_or};
+ghost use Rattle.std.specs.Prelude.{◌≡◌};
 ghost use Rattle.typing.specs.Rulings.{Leafs, Enters, ended, RuleOne, Asks, RuleTwo, RuleThree};
 
 use crate::CheckError;
@@ -11,7 +11,7 @@ use words::tags::Tag;
 use words::walk::type_end;
 
 // The position that stands for a node's type, and where the node ends.
-#[derive(Clone, Copy)]
+#[derive(Clone, Copy, PartialEq, Eq, Debug)]
 pub struct Typed {
     pub held: u16,
     pub end: u16,
@@ -19,7 +19,7 @@ pub struct Typed {
 
 // From here on the work buffer notes for each variable where its annotation stands, and 0 where it is not in scope;
 // before it is a word for each word of the script, the link of the node there. Both are words of the one buffer that the
-// caller of pulleyrush_check lends, so neither an Option nor a slice of its own.
+// caller of pulleyrush_check lends, so no Option; and one slice, since Scope (specs/Rulings.antt) reads one.
 pub const SCOPE: usize = 2048;
 
 // No child: unit, false, true, a number, a variable. A location and a revision have no type in a script.
@@ -111,7 +111,7 @@ pub fn rule_one(node: Node, links: &[u16], child: Typed) -> Result<Typed, CheckE
 }
 
 // The type that a node asks of its second child, and what it gives.
-#[derive(Clone, Copy)]
+#[derive(Clone, Copy, PartialEq, Eq, Debug)]
 pub struct Ask {
     pub want: u16,
     pub gives: u16,

@@ -6,14 +6,14 @@ use words::reading::word_at;
 use words::tags::Tag;
 
 // The words of a script: so few that each place in them is a word.
-#[derive(Clone, Copy)]
+#[derive(Clone, Copy, PartialEq, Eq, Debug)]
 pub struct Script<'a> {
     pub words: &'a [u16],
     pub ghost few: { length words.now ≤ 2048 },
 }
 
 // The node of the script that stands at `at`, by its tag.
-#[derive(Clone, Copy)]
+#[derive(Clone, Copy, PartialEq, Eq, Debug)]
 pub struct Node<'a> {
     pub script: Script<'a>,
     pub at: u16,

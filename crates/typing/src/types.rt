@@ -1,5 +1,5 @@
 // Types held as positions of the script, never copied: the tag at a position says which type it stands for.
-ghost use Rattle.std.specs.Prelude.{◌≡◌, ◌+◌, ◌≤◌, length, get_or};
+ghost use Rattle.std.specs.Prelude.{◌≡◌, ◌+◌, ◌≤◌, length};
 ghost use Rattle.typing.specs.Held.{Named, HeadIn, head_if, basic_of, Headed, SameHeads, SameTypes, head_tag, head_rest};
 ghost use Rattle.words.specs.Tags.{word_of};
 
@@ -9,7 +9,7 @@ use words::tags::{Tag, TypeTag};
 use words::walk::type_end;
 
 // What a type is at its front.
-#[derive(Clone, Copy)]
+#[derive(Clone, Copy, PartialEq, Eq, Debug)]
 pub enum Head {
     Unit,
     Bool,
@@ -95,7 +95,7 @@ fn basic_of(tag: Tag) -> Option<Head>
 }
 
 // The script, and the links: for each word of it where the rest of the type is held that the node there has.
-#[derive(Clone, Copy)]
+#[derive(Clone, Copy, PartialEq, Eq, Debug)]
 pub struct Held<'a> {
     pub script: Script<'a>,
     pub links: &'a [u16],
@@ -139,6 +139,7 @@ impl<'a> Held<'a> {
     }
 
     // Are the types at p and at q the same words? A type of n words has at most n heads.
+    // `done` is named for the loop's invariant, which says how many heads were alike.
     pub fn same(self, p: u16, q: u16) -> bool
         ensures { SameTypes self.entry.script.words.now self.entry.links.now p q result }
     {

@@ -1,5 +1,5 @@
 // A type that is held, written out.
-ghost use Rattle.std.specs.Prelude.{◌≡◌, ◌^◌, ◌<◌};
+ghost use Rattle.std.specs.Prelude.{◌^◌, ◌<◌};
 ghost use Rattle.typing.specs.Writing.{WroteHead, WroteType};
 
 use crate::buffers::{copy, put};
@@ -22,6 +22,7 @@ fn write_head(script: Script, head: Head, out: &mut [u16], to: usize) -> usize
 
 // Writes the words of the type at p, as far as there is room, and says how many they are.
 // A type of over 4,096 words need not be written to its end: 4,097 heads have more words than that.
+// `done` is named for the loop's invariant, which says how many heads were written.
 pub fn write_type(types: Held, p: u16, out: &mut [u16]) -> usize
     ensures { WroteType types.entry.script.words.now types.entry.links.now p out.old result out.new }
 {
