@@ -1,7 +1,7 @@
 // The place of work in an expression's words: a loop from the top that keeps only a position.
 #![tactic(auto)]
 
-ghost use Rattle.std.specs.Prelude.{◌≡◌, ◌+◌, ◌<◌, leb, length};
+ghost use Rattle.std.specs.Prelude.{◌≡◌, leb};
 ghost use Rattle.words.specs.Tags.{word_of};
 ghost use Rattle.place.specs.Search.{TagAt, Asks, Decides, RedexBy, Looks, Placed};
 
@@ -66,7 +66,8 @@ fn deciding_child(s: &[u16], node: Tag, first: Tag, at: usize) -> usize
     }
 }
 
-// What there is to do at a node: the child that starts there is entered, or the search ends.
+// What there is to do at a node: the child that starts there is entered, or the search ends. Not ControlFlow: Finds
+// (specs) says of each end what it means.
 #[derive(Clone, Copy, PartialEq, Eq, Debug)]
 pub enum Move {
     Enter(usize),
@@ -75,6 +76,7 @@ pub enum Move {
     IsStuck,
 }
 
+// A look at the node at p. Where a tag that it needs is missing no expression stands there, and any end will do.
 fn look(s: &[u16], p: usize) -> Move
     ensures { Looks s.now p result }
 {
@@ -113,6 +115,7 @@ pub fn place_of_work(s: &[u16], at: usize) -> Spot
     ensures { Placed s.now at result }
 {
     let mut p = at;
+    // A loop: how deep the work lies is known only there, so no range has the turns.
     loop {
         match look(s, p) {
             Move::Enter(q) => {

@@ -13,23 +13,25 @@ use words::tags::Tag;
 use words::walk::{front_at, types_end};
 use write::cursor::copy_part;
 
-// What goes in: for each free variable x, the words of the value, which stand in the same words from `from` to `end`.
-#[derive(Clone, Copy)]
+// What goes in: for each free variable x, the words of the value, which stand in the same words from `from` to `end`:
+// two numbers, since a Range is not Copy and would be cloned for each piece.
+#[derive(Clone, Copy, PartialEq, Eq, Debug)]
 pub struct Filling {
     pub x: u16,
     pub from: usize,
     pub end: usize,
 }
 
-// So many expressions that stand one after the other from `at` on.
-#[derive(Clone, Copy)]
+// So many expressions that stand one after the other from `at` on. Not write::overlay::Rest: what stands there are a
+// store's entries.
+#[derive(Clone, Copy, PartialEq, Eq, Debug)]
 pub struct Children {
     pub at: usize,
     pub count: usize,
 }
 
 // What is written for a node: words, and then its children.
-#[derive(Drop)]
+#[derive(Drop, PartialEq, Eq, Debug)]
 pub struct Piece {
     pub words: Range<usize>,
     pub children: Children,
@@ -80,14 +82,14 @@ fn piece_at(s: &[u16], at: usize, filling: &Filling) -> Option<Piece>
 }
 
 // Where the reading is, and the cursor.
-#[derive(Clone, Copy)]
+#[derive(Clone, Copy, PartialEq, Eq, Debug)]
 pub struct Reached {
     pub read: usize,
     pub to: usize,
 }
 
 // A node's piece is written: its children are still to be, at the cursor.
-#[derive(Clone, Copy)]
+#[derive(Clone, Copy, PartialEq, Eq, Debug)]
 pub struct Opened {
     pub children: Children,
     pub to: usize,
@@ -106,8 +108,8 @@ fn write_node(s: &[u16], at: Reached, filling: &Filling, out: &mut [u16]) -> Ope
 }
 
 // Writes the children of a node with the value for each free variable. Calls itself for the children of each; `left` is
-// at least the count of the words that remain, and falls with each call. The node and what goes in are lent, which keeps
-// a call's stack small.
+// at least the count of the words that remain, and falls with each call: it bounds the calls on any words, and Replaces
+// (specs) says by it what was written. The node and what goes in are lent, which keeps a call's stack small.
 fn replace(s: &[u16], node: &Opened, filling: &Filling, out: &mut [u16], left: usize) -> Reached
     requires { (filling.now.end ≤ length s.now) × (node.now.to ≤ length out.old + 1) }
     ensures { Replaces s.now node.now.children filling.now out.old node.now.to left result out.new }
@@ -127,7 +129,7 @@ fn replace(s: &[u16], node: &Opened, filling: &Filling, out: &mut [u16], left: u
 }
 
 // Writes the expression at `at` with the words of s in the range `value` for each free variable x, and answers the
-// cursor.
+// cursor. For `out` and `to` see write::cursor::put_word.
 pub fn substitute(
     s: &[u16],
     at: usize,

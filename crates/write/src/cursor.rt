@@ -1,5 +1,5 @@
 // A cursor that may run past the end of the buffer: stores there do nothing, and the cursor stays one past the end.
-ghost use Rattle.std.specs.Prelude.{◌+◌, ◌≤◌, [], ◌∷◌, length};
+ghost use Rattle.std.specs.Prelude.{◌≤◌, [], ◌∷◌, length};
 ghost use Rattle.write.specs.Cursor.{Wrote, part};
 
 use std::ops::Range;

@@ -8,7 +8,7 @@ use image::parts::seek_entry;
 use std::ops::Range;
 
 // Where the entry of a location goes: in place of the words of `entry`, none where it has none yet; the count then.
-#[derive(Drop)]
+#[derive(Drop, PartialEq, Eq, Debug)]
 pub struct Hole {
     pub entry: Range<usize>,
     pub count: u16,
@@ -32,7 +32,7 @@ fn hole_for(s: &[u16], store: usize, l: u16) -> Hole
 }
 
 // Writes the store that stands in the range `store`, its count first, with the words of s in the range `cell` as the
-// cell of location l.
+// cell of location l. For `out` and `to` see cursor::put_word.
 pub fn put_entry(
     s: &[u16],
     store: Range<usize>,

@@ -44,7 +44,7 @@ fn next_of(s: &[u16], first: Rest, second: Rest) -> Ordering
 }
 
 // The words of the overlay's next entry, and what is then left of the two stores.
-#[derive(Drop)]
+#[derive(Drop, PartialEq, Eq, Debug)]
 pub struct Turn {
     pub entry: Range<usize>,
     pub first: Rest,
@@ -84,7 +84,8 @@ pub fn advance(s: &[u16], first: Rest, second: Rest) -> Turn
     }
 }
 
-// Writes the first store overlaid by the second, after the count of its entries.
+// Writes the first store overlaid by the second, after the count of its entries. The two rests are two parameters here
+// and above: each function names both halves of a pair all the same.
 pub fn overlay_into(
     s: &[u16],
     mut first: Rest,
@@ -98,6 +99,7 @@ pub fn overlay_into(
     // The count is known at the end only: until then 0 keeps its place.
     let mut count: u16 = 0;
     let mut cursor = put_word(out, to, count);
+    // A while: one turn takes an entry of each store where both have it, so no range has the turns.
     while 0 < first.count + second.count {
         let turn = advance(s, first, second);
         cursor = copy_part(s, turn.entry, out, cursor);
