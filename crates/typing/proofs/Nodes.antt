@@ -150,6 +150,7 @@ module _ (s t : List ℕ) (at : ℕ) (w : Tag) (q : word_of w ≡ get_or s at 0)
     first = λ z. refl;
     body = λ A z. absurd (no_lambda h z);
     table = λ p e. simp (ne_eqb (get_or s at 0) 7 (no_lambda h));
+    kept = λ z. refl;
   }
 
   pub enter_broken : (r : Option ℕ) → w ≡ Lambda → None ≡ walk_of (type_end s (at + 2)) → r ≡ None → Enters s at t r t
@@ -158,6 +159,7 @@ module _ (s t : List ℕ) (at : ℕ) (w : Tag) (q : word_of w ≡ get_or s at 0)
     first = λ k. absurd (k (a_lambda h));
     body = λ A k u. absurd (ends_nowhere s (at + 2) e A u);
     table = λ p k. absurd (none-some p (sym z ∙ k));
+    kept = λ k. refl;
   }
 
   module _ (h : w ≡ Lambda) (x old : ℕ) (t₁ t₂ : List ℕ) (a : x ≡ get_or s (at + 1) 0)
@@ -172,6 +174,7 @@ module _ (s t : List ℕ) (at : ℕ) (w : Tag) (q : word_of w ≡ get_or s at 0)
       first = λ z. absurd (z (a_lambda h));
       body = λ A z u. ap (λ (n : ℕ). Some n) (ends_of s (at + 2) r e A u);
       table = λ p z. noted_table;
+      kept = λ z. absurd (none-some r (sym z));
     }
 
   pub leave_lambda : w ≡ Lambda → (a x old : ℕ) (t₁ t₂ : List ℕ) → x ≡ get_or s (at + 1) 0 → old ≡ get_or t (at + 1) 0

@@ -63,6 +63,7 @@ pub record Enters (s : List ℕ) (at : ℕ) (t : List ℕ) (r : Option ℕ) (t' 
   pub first : (get_or s at 0 ≡ 7 → ⊥) → r ≡ Some (at + 1)
   pub body : (A : ScriptType) → get_or s at 0 ≡ 7 → Written s (at + 2) A → r ≡ Some (at + 2 + length (type_words A))
   pub table : (p : ℕ) → r ≡ Some p → t' ≡ entered s at t
+  pub kept : r ≡ None → t' ≡ t
 
 -- every node notes its first child's type as its link, and a lambda gives the scope back
 unfoldable pub ended : List ℕ → ℕ → ℕ → List ℕ → List ℕ
