@@ -5,7 +5,7 @@ ghost use Rattle.image.specs.Reports.{report_of};
 
 use crate::used::in_use;
 use crate::valid::is_valid;
-use words::names::InUse;
+use words::in_use::InUse;
 
 // The words are not a valid image.
 #[derive(Clone, Copy, PartialEq, Eq, Debug)]

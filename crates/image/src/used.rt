@@ -4,7 +4,8 @@ ghost use Rattle.image.specs.Marks.{revisions, ImageMarks};
 
 use crate::items::Section;
 use crate::marks::{Taken, mark_items};
-use words::names::{InUse, Marks};
+use words::in_use::InUse;
+use words::names::Marks;
 
 impl Taken for InUse {
     ghost taking = { revisions };

@@ -9,7 +9,7 @@ use crate::tags::Tag;
 use crate::walk::{front_at, type_end};
 
 // What a node asks of the variables in scope, and where the words after its own part start.
-#[derive(Clone, Copy)]
+#[derive(Clone, Copy, PartialEq, Eq, Debug)]
 enum Node {
     // so many children, in the same scope
     Plain { children: usize, next: usize },
@@ -19,6 +19,7 @@ enum Node {
 }
 
 // The node at `at`, a binder with its type. The binder is the one node with a type.
+// By the row and the word, and no match on Tag: so node_of (specs/Scopes.antt) tells it.
 fn node_at(s: &[u16], at: usize) -> Option<Node>
     ensures { result ≡ node_of s.now at }
 {
@@ -45,6 +46,7 @@ fn closed_in(s: &[u16], at: usize, scope: [bool; 256]) -> Option<usize>
 {
     let mut pending: usize = 1;
     let mut p = at;
+    // A while: what is read may bring more to come, so no range has the turns.
     while 0 < pending {
         let node = node_at(s, p)?;
         match node {

@@ -5,7 +5,7 @@ ghost use Rattle.calculus.specs.Answers.{tally};
 use crate::names::{Leaf, Marks, with_names};
 
 // The marks of the revision numbers in use, and how many are set.
-#[derive(Clone, Copy, Debug)]
+#[derive(Clone, Copy, PartialEq, Eq, Debug)]
 pub struct InUse {
     pub marks: [bool; 64],
     pub count: usize,
@@ -39,6 +39,7 @@ impl InUse {
     }
 
     // One more mark; a number past the marks is none.
+    // No crate here calls it: a public function, which marks one number as with_names those of words.
     pub fn with(self, number: u16) -> InUse
         ensures { Marked self number result }
     {

@@ -1,13 +1,12 @@
-// Which names occur in an expression: flat scans over its words, node by node.
+// Which names occur in an expression, and marks of their numbers: flat scans over its words, node by node.
 ghost use Rattle.std.specs.Prelude.{◌≡◌, List, Bool, true, set};
 ghost use Rattle.words.specs.Names.{NextLeaf, HandleTold, leaf_of};
 ghost use Rattle.words.specs.Marks.{NamesMarked, LocationsMarked};
 
-pub use crate::in_use::InUse;
 use crate::table::Kind;
 use crate::walk::{front_at, types_end};
 
-// The kinds of leaves, each with its tag.
+// The kinds of leaves, each with its tag. Not Tag: NextLeaf speaks of these four only; the numbers are Tag's.
 #[derive(Clone, Copy, PartialEq, Eq, Debug)]
 pub enum Leaf {
     Number = 3,
@@ -18,6 +17,7 @@ pub enum Leaf {
 
 // Where the next leaf of the kind stands, from the node at `at` on. A lambda's type is passed over, since its words
 // are no nodes.
+// A loop that counts no index: where the next node starts is known only once this one is read.
 pub fn next_leaf(s: &[u16], at: usize, leaf: Leaf) -> Option<usize>
     ensures { NextLeaf s.now at leaf result }
 {
@@ -60,6 +60,7 @@ impl<const N: usize> Marks for [bool; N] {
 }
 
 // The marks with those of the numbers that the leaves of the kind name.
+// An iterator over the leaves would be a struct with ghost members for this one loop, which counts no index.
 pub fn with_names<M: Marks>(marks: M, s: &[u16], leaf: Leaf) -> M
     ensures { NamesMarked s.now (leaf_of leaf) (M.marks marks) (M.marks result) }
 {
@@ -73,6 +74,7 @@ pub fn with_names<M: Marks>(marks: M, s: &[u16], leaf: Leaf) -> M
 }
 
 // The marks with those of the locations that are named in the words.
+// No crate here calls it: it is a public function, which docs/DECISIONS.md names.
 pub fn locations_in(s: &[u16], marks: [bool; 256]) -> [bool; 256]
     ensures { LocationsMarked s.now marks result }
 {

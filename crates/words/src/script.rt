@@ -1,4 +1,5 @@
-// Whether words are a script: one closed expression of at most 2,048 words that names no location and no revision.
+// Whether words are a script, or why not: a script is one closed expression of at most 2,048 words that names no location
+// and no revision.
 ghost use Rattle.words.specs.Scripts.{ScriptTold};
 
 use crate::closed::closed_end_of;
@@ -13,7 +14,7 @@ pub enum ScriptError {
     NotClosed,
 }
 
-// Are the words a script, and why are they none?
+// Are the words a script, or why not?
 pub fn check_script(words: &[u16]) -> Result<(), ScriptError>
     ensures { ScriptTold words.now result }
 {

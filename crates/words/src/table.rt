@@ -2,6 +2,7 @@
 ghost use Rattle.std.specs.Prelude.{◌≡◌};
 ghost use Rattle.words.specs.Rows.{row_of};
 
+// What a tag begins.
 #[derive(Clone, Copy, PartialEq, Eq, Debug)]
 pub enum Kind {
     Expression,
@@ -9,7 +10,7 @@ pub enum Kind {
 }
 
 // What follows a tag: an own word below the limit, if there is one, then so many types, then so many expressions.
-#[derive(Clone, Copy, Debug)]
+#[derive(Clone, Copy, PartialEq, Eq, Debug)]
 pub struct Row {
     pub kind: Kind,
     pub limit: Option<u32>,
@@ -74,7 +75,8 @@ const IF: Row = Row {
     children: 3,
 };
 
-// The tags from 0, as `Tag` has them.
+// The tags from 0, as `Tag` has them. A table for each kind, since the numbers between the two are no tags; static and
+// not const, since a const array is built anew where it is read.
 static EXPRESSIONS: [Row; 18] = [
     CONSTANT, CONSTANT, CONSTANT, NUMBER, NAME, NAME, REVISION, LAMBDA, TWO, IF, ONE, ONE, TWO,
     ONE, ONE, TWO, TWO, TWO,

@@ -6,7 +6,7 @@ ghost use Rattle.words.specs.Walks.{walk_of, front_of, types_end, expressions_en
 use crate::table::{Kind, Row, row_at};
 
 // A node whose tag and own word are right: its row, and where its types or children start.
-#[derive(Clone, Copy, Debug)]
+#[derive(Clone, Copy, PartialEq, Eq, Debug)]
 pub struct Front {
     pub row: Row,
     pub next: usize,
@@ -45,6 +45,7 @@ pub fn types_end(s: &[u16], n: usize, at: usize) -> Option<usize>
 {
     let mut pending = n;
     let mut p = at;
+    // A while: what is read may bring more to come, so no range has the turns.
     while 0 < pending {
         let front = front_at(s, Kind::Type, p)?;
         pending = pending - 1 + front.row.types;
@@ -60,7 +61,8 @@ pub fn type_end(s: &[u16], at: usize) -> Option<usize>
     types_end(s, 1, at)
 }
 
-// Where `n` expressions that stand one after the other from `at` on end. Calls itself for the children of each.
+// Where `n` expressions that stand one after the other from `at` on end. It calls itself for the children of each, as
+// docs/DECISIONS.md has it.
 fn expressions_end(s: &[u16], n: usize, at: usize) -> Option<usize>
     ensures { result ≡ walk_of (expressions_end s.now n at) }
 {
