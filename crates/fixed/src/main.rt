@@ -4,6 +4,8 @@
 // the reader, and notes without digits may stand between. An example is KIND COUNT and then COUNT words, at most 8,192;
 // words that are missing at the end are 0.
 // KIND is 0: load, 4: signed, 5: less, 6: add, 7: subtract; another kind is printed as unknown.
+//
+// It writes by io and not by println!, which would end the program at a failed write, and this one goes on.
 #![tactic(auto)]
 
 mod line;
@@ -15,8 +17,8 @@ use words::numbers::{add, less, signed, subtract};
 use words::reading::word_at;
 use words::script::{ScriptError, check_script};
 
-// What an example asks for.
-#[derive(Clone, Copy)]
+// What an example asks for. The numbers of the kinds are the input's, so they stand in `of` alone.
+#[derive(Clone, Copy, PartialEq, Eq, Debug)]
 enum Kind {
     Load,
     Signed,
@@ -98,7 +100,7 @@ fn answer_next(kind: Option<Kind>, words: &mut Words) {
     answer(kind, example);
 }
 
-// A line for each example. None is shorter than a byte, so the count of bytes bounds the turns.
+// A line for each example. None is shorter than a byte, so the bytes are turns enough: a bound that needs no proof.
 fn answer_all(text: &[u8]) {
     let mut words = Words { bytes: text.iter() };
     for _ in text {

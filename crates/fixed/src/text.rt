@@ -22,6 +22,8 @@ impl<'a> Iterator for Words<'a> {
     ghost remaining = { λ words. at_most (length words.bytes.rest.now) };
 
     // The next number, by its last 16 bits.
+    // No take_while over by_ref: tried, and `returns-clause-goes` stayed open, since after the loop a proof did not have
+    // the bytes that are left.
     fn next(&mut self) -> Option<u16> {
         let first = self.bytes.find(|byte| byte.is_ascii_digit())?;
         let mut value = with_digit(0, *first);

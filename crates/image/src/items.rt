@@ -16,16 +16,21 @@ use words::closed::closed_end_of;
 use words::reading::word_at;
 use words::tags::Tag;
 
-// What the words of an item tell, what they are, which are valid, their reader, and the numbers that an item takes.
+// A kind of item.
 pub trait Item {
+    // What the words of an item tell.
     ghost Told: { Type 0 };
 
+    // The words that tell it.
     ghost told_words: { Told → List ℕ };
 
+    // Which of what they tell is valid.
     ghost IsValid: { Told → Type 0 };
 
+    // Their reader.
     ghost read: { ℕ → Reader Told };
 
+    // The numbers that an item takes, by its key.
     ghost taken: { Taking → ℕ → Told → List ℕ };
 
     // The largest key.
@@ -52,7 +57,7 @@ pub trait Item {
 // The largest tag of a closed value.
 const LARGEST_VALUE: u16 = Tag::Lambda as u16;
 
-// The value of a location.
+// An entry of a store, after its key: the value of a location.
 pub struct Entry;
 
 impl Item for Entry {
@@ -88,7 +93,7 @@ impl Item for Entry {
     }
 }
 
-// The stores and the expression of a revision.
+// A section of a state, after its key: the stores and the expression of a revision.
 pub struct Section;
 
 impl Item for Section {
@@ -127,7 +132,7 @@ impl Item for Section {
 }
 
 // Where the item with the key stands among n items that start at `at`, or else where it would go.
-// A walk and no binary search: where an item ends is known only once it is read.
+// A walk and no binary search: where an item ends is known only once it is read. Of its own: it stops at a key.
 pub fn seek<I: Item>(s: &[u16], at: usize, n: usize, key: u16) -> Result<usize, usize>
     ensures { Seeks I.told_words I.IsValid I.LARGEST s.now at n key result }
 {

@@ -27,6 +27,7 @@ pub trait Taken: Marks {
 }
 
 // Sets the marks of the items whose count stands at `at`.
+// A walk of its own: what it asks for at each item sets marks too.
 pub fn mark_items<I: Item, M: Taken>(s: &[u16], at: usize, marks: &mut M)
     ensures { MarksAt (counted I.told_words) (Listed I.IsValid I.LARGEST 0) (in_map (I.taken M.taking))
         s.now at (M.marks marks.old) (M.marks marks.new) }

@@ -1,4 +1,5 @@
 // The parts of an image: the section of a revision, its stores and its expression, and an entry of a store.
+// Places are numbers beside the words: a struct of both would be made, and proved inside the words, at each sum.
 ghost use Rattle.std.specs.Prelude.{◌≤◌, ◌<◌, length};
 ghost use Rattle.calculus.specs.Images.{counted, cell_words, task_words, ValidCell, ValidStore, ValidTask};
 ghost use Rattle.image.specs.Cuts.{Past, Seeks, PartsAt, ValueIn, Found};
@@ -8,6 +9,7 @@ use crate::nodes::past;
 use words::reading::word_at;
 
 // Where the store ends whose count stands at `at`.
+// A walk of its own: it asks of an item no more than where it ends.
 fn past_store(s: &[u16], at: usize) -> usize
     requires { at ≤ length s.now }
     ensures { Past (counted cell_words) ValidStore s.now at result }
@@ -31,7 +33,7 @@ pub fn seek_entry(s: &[u16], at: usize, n: usize, l: u16) -> Result<usize, usize
 }
 
 // Of a section whose snapshot's count stands at `at`: where its local store's count, its expression and its end stand.
-#[derive(Clone, Copy)]
+#[derive(Clone, Copy, PartialEq, Eq, Debug)]
 pub struct Parts {
     pub local: usize,
     pub expression: usize,

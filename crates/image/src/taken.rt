@@ -18,7 +18,7 @@ impl Taken for [bool; 256] {
     fn mark_expression(&mut self, _expression: &[u16]) {}
 }
 
-// The locations that are in some snapshot or local store.
+// The locations that are in some snapshot or local store. Beside in_use: see there.
 pub fn taken_locations(s: &[u16]) -> [bool; 256]
     ensures { ImageMarks taken_locations 256 s.now result }
 {

@@ -24,6 +24,7 @@ impl Taken for InUse {
 }
 
 // The revision numbers that are live or mentioned.
+// It and taken_locations stay two: each is one call of the walk that they share, mark_items, over marks of its own.
 pub fn in_use(s: &[u16]) -> InUse
     ensures { ImageMarks taken_revisions 64 s.now result.marks }
 {
