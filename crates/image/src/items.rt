@@ -138,10 +138,9 @@ pub fn seek<I: Item>(s: &[u16], at: usize, n: usize, key: u16) -> Result<usize, 
 {
     let mut p = at;
     for _ in 0..n {
-        if s.len() <= p {
+        let Some(&here) = s.get(p) else {
             return Err(p);
-        }
-        let here = s[p];
+        };
         if key < here {
             return Err(p);
         }

@@ -32,10 +32,9 @@ pub fn mark_items<I: Item, M: Taken>(s: &[u16], at: usize, marks: &mut M)
     ensures { MarksAt (counted I.told_words) (Listed I.IsValid I.LARGEST 0) (in_map (I.taken M.taking))
         s.now at (M.marks marks.old) (M.marks marks.new) }
 {
-    if s.len() <= at {
+    let Some(&n) = s.get(at) else {
         return;
-    }
-    let n = s[at];
+    };
     let mut p = at + 1;
     for _ in 0..n {
         if s.len() <= p {

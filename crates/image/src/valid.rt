@@ -16,10 +16,7 @@ fn items_end<I: Item>(s: &[u16], at: usize, n: usize) -> Option<usize>
     let mut p = at;
     let mut low = 0;
     for _ in 0..n {
-        if s.len() <= p {
-            return None;
-        }
-        let key = s[p] as usize;
+        let key = *s.get(p)? as usize;
         if key < low || largest < key {
             return None;
         }
@@ -33,10 +30,7 @@ fn items_end<I: Item>(s: &[u16], at: usize, n: usize) -> Option<usize>
 pub fn map_end<I: Item>(s: &[u16], at: usize) -> Option<usize>
     ensures { Matched (map_of I.read (I.LARGEST + 1) I.LARGEST) s.now at result }
 {
-    if s.len() <= at {
-        return None;
-    }
-    let n = s[at] as usize;
+    let n = *s.get(at)? as usize;
     if I::LARGEST as usize + 1 < n {
         return None;
     }

@@ -2,17 +2,17 @@
 use Rattle.image.proofs.Seeking.{seek_none, seek_out, seek_hit, seek_over, seek_next}
 use Rattle.image.proofs.items.seek.Goals as goal
 
-pub returns-then-s-p : goal.returns-then-s-p
-returns-then-s-p g c = search seek_out
+pub returns-in_default : goal.returns-in_default
+returns-in_default g c = search (seek_out, c.in_default.ensures.lookup.3)
 
 pub returns-then-key-here : goal.returns-then-key-here
-returns-then-key-here g c = search seek_over
+returns-then-key-here g c = search (seek_over, c.in-Some.ensures.lookup.3.1 0)
 
 pub returns-then-key-here-2 : goal.returns-then-key-here-2
-returns-then-key-here-2 g c = search seek_hit
+returns-then-key-here-2 g c = search (seek_hit, c.in-Some.ensures.lookup.3.1 0)
 
 pub loop-preserved : goal.loop-preserved
-loop-preserved g c = search seek_next
+loop-preserved g c = search (seek_next, c.in-Some.ensures.lookup.3.1 0)
 
 pub returns : goal.returns
 returns g c = search seek_none
