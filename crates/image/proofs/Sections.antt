@@ -2,10 +2,11 @@
 use Prim.Native.Nat.{ℕ, ◌+◌, ◌≤◌, ◌<◌}
 use mathlib.Core.List.{List, ◌++◌}
 use mathlib.Core.Option.{Option as Maybe, none, some}
-use mathlib.Core.Path.{◌≡◌, sym, ap, ◌∙◌, subst}
+use mathlib.Core.Path.{◌≡◌, refl, sym, ap, ◌∙◌, subst}
 use native.Mathlib.Omega.{arith}
 use lib.ListN.{length, get_or, length-append}
 use Rattle.std.specs.Prelude.{MatchOption, Option, Some, None, Result, Ok, Err, min}
+use Rattle.std.specs.Result.{result_ok}
 use Rattle.calculus.specs.Maps.{get}
 use Rattle.calculus.specs.Words.{words}
 use Rattle.calculus.specs.Stores.{Cell, Store}
@@ -115,11 +116,21 @@ miss_cell s at n l q p m low k u h c t =
     (sym t ∙ k.answer m low u h c) in
     miss_get l m (listed_rising ValidCell 255 m low u) e.0
 
+-- what a result holds, by its `ok`
+answered : (q : Result ℕ ℕ) (p : ℕ) → Some p ≡ result_ok q → q ≡ Ok p
+answered (Ok a) p e = cc
+answered (Err a) p e = absurd cc
+
+refused : (q : Result ℕ ℕ) → None ≡ result_ok q → (p : ℕ) × (q ≡ Err p)
+refused (Ok a) e = absurd cc
+refused (Err a) e = (a, refl)
+
 -- the value in a store, and in a view
 module _ (s : List ℕ) (store l n : ℕ) (ni : n ≡ get_or s store 0) (q : Result ℕ ℕ)
-    (k : Seeks cell_words ValidCell 255 s (store + 1) n l q) (p : ℕ) where
-  pub value_here : q ≡ Ok p → ValueIn s store l (Some (p + 1))
-  value_here t =
+    (k : Seeks cell_words ValidCell 255 s (store + 1) n l q) where
+  pub value_here : (p : ℕ) → Some p ≡ result_ok q → ValueIn s store l (Some (p + 1))
+  value_here p is =
+      let t = answered q p is in
       record {
         answer = λ m v st.
             let h = headed st in
@@ -127,8 +138,9 @@ module _ (s : List ℕ) (store l n : ℕ) (ni : n ≡ get_or s store 0) (q : Res
             subst (λ (o : Maybe Cell). CellAt s o (Some (p + 1))) (sym g) at;
       }
 
-  pub value_missing : q ≡ Err p → ValueIn s store l None
-  value_missing t =
+  pub value_missing : None ≡ result_ok q → ValueIn s store l None
+  value_missing is =
+      let (p, t) = refused q is in
       record {
         answer = λ m v st.
             let h = headed st in

@@ -4,6 +4,9 @@ use mathlib.Core.Bool.{Bool, true, false, cond}
 use mathlib.Core.List.{List, [], ◌∷◌, ◌++◌, append_assoc}
 use mathlib.Core.Option.{none, some}
 use Rattle.std.specs.Prelude.{Result, Ok, Err}
+use Rattle.std.specs.Cmp.{ranked}
+use Rattle.std.specs.Ordering.{nat_cmp}
+use Rattle.std.specs.declared.cmp.Ordering.TheVariants.{Less, Equal, Greater}
 use mathlib.Core.Path.{◌≡◌, refl, sym, ap, ◌∙◌, subst}
 use native.Mathlib.Omega.{arith}
 use lib.Dec.{eqb, ltb}
@@ -190,24 +193,29 @@ module _ {A : Type 0} (w : A → List ℕ) (ok : A → Type 0) (top : ℕ) where
           at_place true h = h
           at_place false h = h
 
-      pub seek_hit : k ≡ x → Seeks w ok top s at n k (Ok p)
-      seek_hit o = found (omega arith) (Ok p) (ap (λ b. place_if b p) (sym (eq-eqb x k (sym o))))
+      pub seek_hit : Equal ≡ nat_cmp k x → Seeks w ok top s at n k (Ok p)
+      seek_hit e =
+          let o = ranked k x Equal e in
+          found (omega arith) (Ok p) (ap (λ b. place_if b p) (sym (eq-eqb x k (sym o))))
 
-      pub seek_over : k < x → Seeks w ok top s at n k (Err p)
-      seek_over o = found (omega arith) (Err p) (ap (λ b. place_if b p) (sym (ne_eqb x k (λ z. omega arith))))
+      pub seek_over : Less ≡ nat_cmp k x → Seeks w ok top s at n k (Err p)
+      seek_over e =
+          let o = ranked k x Less e in
+          found (omega arith) (Err p) (ap (λ b. place_if b p) (sym (ne_eqb x k (λ z. omega arith))))
 
-      pub seek_next : x ≤ k → (k ≡ x → ⊥) → (q : ℕ) → Past w ok s (p + 1) q → Seeking s at n k q (i + 1)
+      pub seek_next : Greater ≡ nat_cmp k x → (q : ℕ) → Past w ok s (p + 1) q → Seeking s at n k q (i + 1)
       unfolding before hits
-      seek_next o d q past =
+      seek_next c q past =
+          let o = ranked k x Greater c in
           record {
             high = λ h. past.high;
-            sees = λ m low u h c.
-                left_next w ok top (g.sees m low u h c) l q past (λ y z t e h. over y z (is ∙ t.key) e ∙ h);
+            sees = λ m low u h e.
+                left_next w ok top (g.sees m low u h e) l q past (λ y z t e h. over o y z (is ∙ t.key) e ∙ h);
           }
         where
-          over : (y : ℕ × A) (z : Map A) → x ≡ y.0 → q ≡ p + 1 + length (w y.1)
+          over : x < k → (y : ℕ × A) (z : Map A) → x ≡ y.0 → q ≡ p + 1 + length (w y.1)
               → seek_of w q k z ≡ seek_of w p k (y ∷ z)
-          over y z v e =
+          over o y z v e =
               let b : ltb y.0 k ≡ true = lt-ltb y.0 k (omega arith) in
               let la = length-append (w y.1) (entries w (before k z)) in
               let t : q + length (entries w (before k z))

@@ -12,6 +12,7 @@ use crate::marks::{Taken, mark_items};
 use crate::nodes::past;
 use crate::parts::parts_of;
 use crate::valid::map_end;
+use std::cmp::Ordering;
 use words::closed::closed_end_of;
 use words::reading::word_at;
 use words::tags::Tag;
@@ -141,13 +142,11 @@ pub fn seek<I: Item>(s: &[u16], at: usize, n: usize, key: u16) -> Result<usize, 
         let Some(&here) = s.get(p) else {
             return Err(p);
         };
-        if key < here {
-            return Err(p);
+        match key.cmp(&here) {
+            Ordering::Less => return Err(p),
+            Ordering::Equal => return Ok(p),
+            Ordering::Greater => p = I::past(s, p + 1),
         }
-        if key == here {
-            return Ok(p);
-        }
-        p = I::past(s, p + 1);
     }
     Err(p)
 }

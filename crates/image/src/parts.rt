@@ -67,10 +67,8 @@ fn value_in(s: &[u16], store: usize, l: u16) -> Option<usize>
     requires { store < length s.now }
     ensures { ValueIn s.now store l result }
 {
-    match seek_entry(s, store + 1, word_at(s, store) as usize, l) {
-        Ok(at) => Some(at + 1),
-        Err(_) => None,
-    }
+    let at = seek_entry(s, store + 1, word_at(s, store) as usize, l).ok()?;
+    Some(at + 1)
 }
 
 // Where the value of location l in a view starts, if it is there: in the local store at `local`, or else in the

@@ -5,14 +5,14 @@ use Rattle.image.proofs.items.seek.Goals as goal
 pub returns-in_default : goal.returns-in_default
 returns-in_default g c = search (seek_out, c.in_default.ensures.lookup.3)
 
-pub returns-then-key-here : goal.returns-then-key-here
-returns-then-key-here g c = search (seek_over, c.in-Some.ensures.lookup.3.1 0)
+pub returns-in-Less : goal.returns-in-Less
+returns-in-Less g c = search (seek_over, c.in-Some.ensures.lookup.3.1 0, c.in-Less.ensures)
 
-pub returns-then-key-here-2 : goal.returns-then-key-here-2
-returns-then-key-here-2 g c = search (seek_hit, c.in-Some.ensures.lookup.3.1 0)
+pub returns-in-Equal : goal.returns-in-Equal
+returns-in-Equal g c = search (seek_hit, c.in-Some.ensures.lookup.3.1 0, c.in-Equal.ensures)
 
 pub loop-preserved : goal.loop-preserved
-loop-preserved g c = search (seek_next, c.in-Some.ensures.lookup.3.1 0)
+loop-preserved g c = search (seek_next, c.in-Some.ensures.lookup.3.1 0, c.in-Greater.ensures)
 
 pub returns : goal.returns
 returns g c = search seek_none
