@@ -1,6 +1,7 @@
 -- assign and ref: the words up to the local store, that store with one entry put, and the expression with the result.
 use Prim.Native.Nat.{ℕ, ◌+◌}
 use mathlib.Core.Path.{◌≡◌, refl, sym, ap, ◌∙◌, subst}
+use mathlib.Core.Bool.{Bool, true, false, not, true≢false}
 use mathlib.Core.List.{List, [], ◌∷◌, ◌++◌, append_assoc}
 use mathlib.Core.Option.{Option as Maybe, none, some}
 use native.Mathlib.Omega.{arith}
@@ -26,6 +27,7 @@ use Rattle.write.specs.Entry.{WrotePut}
 use Rattle.write.proofs.Cursors.{part_stands, wrote_as, then}
 use Rattle.rules.specs.declared.site.Site.{Site}
 use Rattle.std.specs.Prelude.{Option, Some, None, Ok, Err}
+use Rattle.std.specs.Option.{is_some}
 use Rattle.rules.specs.declared.site.Moved.TheVariants.{To}
 use Rattle.rules.specs.declared.site.Reason.TheVariants.{Location}
 use Rattle.rules.specs.declared.site.Refusal.TheVariants.{Stuck, NoNumber}
@@ -113,6 +115,15 @@ cell_none : (s : List ℕ) (m : Maybe Cell) → CellAt s m None → m ≡ none
 cell_none s none t = refl
 cell_none s (some c) t = absurd t
 
+-- whether the look-up found none
+none_told : (q : Option ℕ) (b : Bool) → is_some q ≡ not b → b ≡ true → q ≡ None
+none_told None b h t = refl
+none_told (Some z) b h t = absurd (true≢false (h ∙ ap not t))
+
+some_told : (q : Option ℕ) (b : Bool) → is_some q ≡ not b → b ≡ false → (z : ℕ) × (q ≡ Some z)
+some_told (Some z) b h t = (z, refl)
+some_told None b h t = absurd (true≢false (sym (h ∙ ap not t)))
+
 cell_some : (s : List ℕ) (m : Maybe Cell) (p : ℕ) → CellAt s m (Some p) → (c : Cell) × (m ≡ some c)
 cell_some s none p t = absurd t
 cell_some s (some c) p t = (c, refl)
@@ -127,25 +138,27 @@ module _ (s : List ℕ) (site : Site) (l : ℕ) (li : l ≡ get_or s (site.place
       (found.answer me (me_valid s site st me E (assigning k v) w) (snapshot_stands s site st me E (assigning k v) w)
       (local_stands s site st me E (assigning k v) w))
 
-  pub assign_nothing : (o : List ℕ) → q ≡ None → Acts 12 s site o (Err (Stuck Location)) o
-  assign_nothing o e =
+  pub assign_nothing : (b : Bool) → is_some q ≡ not b → b ≡ true → (o : List ℕ) → Acts 12 s site o (Err (Stuck Location)) o
+  assign_nothing b qe t o =
       record { acts = λ st me E R w g. go st me E R w (redex_is R (two_tag assign) (redex_stands s site st me E R w) g) }
     where
       go : (st : State) (me : Task) (E : Context) (R : Redex) → Work s site st me E R → Is (two_tag assign) R
           → Acted (act site.revision st me E R) o (Err (Stuck Location)) o
       go st me E R w (is_assigning k v) =
-          let n = cell_none s (get k (view me)) (subst (CellAt s (get k (view me))) e (look st me E k v w)) in
+          let n = cell_none s (get k (view me)) (subst (CellAt s (get k (view me))) (none_told q b qe t) (look st me E k v w)) in
           rw (written_none (view me) k v n) (refl, refl)
 
-  pub assign_done : (z : ℕ) → q ≡ Some z → (e : ℕ) (o : List ℕ) (r : ℕ) (o' : List ℕ) → EndsAt s (site.place + 3) e
+  pub assign_done : (b : Bool) → is_some q ≡ not b → b ≡ false → (e : ℕ) (o : List ℕ) (r : ℕ) (o' : List ℕ)
+      → EndsAt s (site.place + 3) e
       → WroteStored s site l (site.place + 3) e (0 ∷ []) o r o' → Acts 12 s site o (Ok (To r)) o'
   unfolding words
-  assign_done z qe e o r o' ends wr =
+  assign_done b be bf e o r o' ends wr =
       record { acts = λ st me E R w g. go st me E R w (redex_is R (two_tag assign) (redex_stands s site st me E R w) g) }
     where
       go : (st : State) (me : Task) (E : Context) (R : Redex) → Work s site st me E R → Is (two_tag assign) R
           → Acted (act site.revision st me E R) o (Ok (To r)) o'
       go st me E R w (is_assigning k v) =
+          let (z, qe) = some_told q b be bf in
           let (c, h) = cell_some s (get k (view me)) z (subst (CellAt s (get k (view me))) qe (look st me E k v w)) in
           let a = assigned s site.place l e k v (redex_formed w) li ends
           (redex_stands s site st me E (assigning k v) w) in

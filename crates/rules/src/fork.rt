@@ -1,6 +1,8 @@
 // fork: the child's section stands before or after the parent's, by its number, and names the child for the fork.
 ghost use Rattle.rules.specs.Work.{Working, Acts};
 ghost use Rattle.rules.specs.Forks.{Forkable, WroteChild, WroteForked};
+ghost use Rattle.words.specs.Tags.{word_of};
+ghost use Rattle.words.specs.declared.tags.Tag.TheVariants.{Fork};
 
 use crate::sections::{find_section, overlay_stores};
 use crate::site::{Moved, Refusal, Site};
@@ -49,8 +51,8 @@ fn write_forked(s: &[u16], site: Site, child: Child, out: &mut [u16]) -> usize
 }
 
 pub fn fork(s: &[u16], site: Site, out: &mut [u16]) -> Result<Moved, Refusal>
-    requires { Working 13 s.now site }
-    ensures { Acts 13 s.now site out.old result out.new }
+    requires { Working (word_of Fork) s.now site }
+    ensures { Acts (word_of Fork) s.now site out.old result out.new }
 {
     let Some(revision) = new_revision(s) else {
         return Err(Refusal::NoNumber);

@@ -1,6 +1,8 @@
 // join: the joined revision's section goes, its local store lies over the joiner's, and unit stands for the join.
 ghost use Rattle.rules.specs.Work.{Working, Acts};
 ghost use Rattle.rules.specs.Sections.{Joinable, WroteJoined};
+ghost use Rattle.words.specs.Tags.{word_of};
+ghost use Rattle.words.specs.declared.tags.Tag.TheVariants.{Join};
 
 use crate::sections::{find_section, overlay_stores};
 use crate::site::{Moved, Refusal, Site};
@@ -11,7 +13,8 @@ use words::reading::word_at;
 use words::tags::Tag;
 use write::cursor::{copy_part, put_word, put_words};
 
-// The next image: the section that stands in the range, and whose local store stands at `local`, is joined.
+// The next image: the section that stands in the range, and whose local store stands at `local`, is joined. The closure
+// that writes nothing stands twice: splice takes what it is given, by value.
 fn write_joined(
     s: &[u16],
     site: Site,
@@ -46,8 +49,8 @@ fn write_joined(
 }
 
 pub fn join(s: &[u16], site: Site, out: &mut [u16]) -> Result<Moved, Refusal>
-    requires { Working 14 s.now site }
-    ensures { Acts 14 s.now site out.old result out.new }
+    requires { Working (word_of Join) s.now site }
+    ensures { Acts (word_of Join) s.now site out.old result out.new }
 {
     let q = word_at(s, site.place + 2);
     let Ok(at) = find_section(s, q) else {

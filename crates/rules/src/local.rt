@@ -5,6 +5,8 @@ ghost use Rattle.calculus.specs.Words.{words};
 ghost use Rattle.write.specs.Cursor.{Wrote};
 ghost use Rattle.rules.specs.Work.{Working, Acts};
 ghost use Rattle.rules.specs.Operations.{meant, tag_of};
+ghost use Rattle.words.specs.Tags.{word_of};
+ghost use Rattle.words.specs.declared.tags.Tag.TheVariants.{If, Read};
 
 use crate::site::{Moved, Reason, Refusal, Site};
 use crate::splice::replace;
@@ -17,8 +19,8 @@ use write::cursor::{copy_part, put_word, put_words};
 
 // if: the chosen branch.
 pub fn choose(s: &[u16], site: Site, out: &mut [u16]) -> Result<Moved, Refusal>
-    requires { Working 9 s.now site }
-    ensures { Acts 9 s.now site out.old result out.new }
+    requires { Working (word_of If) s.now site }
+    ensures { Acts (word_of If) s.now site out.old result out.new }
 {
     let p = site.place;
     let no = past(s, p + 2);
@@ -34,8 +36,8 @@ pub fn choose(s: &[u16], site: Site, out: &mut [u16]) -> Result<Moved, Refusal>
 
 // read: the view's value.
 pub fn read(s: &[u16], site: Site, out: &mut [u16]) -> Result<Moved, Refusal>
-    requires { Working 11 s.now site }
-    ensures { Acts 11 s.now site out.old result out.new }
+    requires { Working (word_of Read) s.now site }
+    ensures { Acts (word_of Read) s.now site out.old result out.new }
 {
     let p = site.place;
     let Some(value) = look_up(s, site.snapshot, site.local, word_at(s, p + 2)) else {
@@ -51,7 +53,7 @@ pub fn read(s: &[u16], site: Site, out: &mut [u16]) -> Result<Moved, Refusal>
     Ok(Moved::To(to))
 }
 
-// The operations on two numbers.
+// The operations on two numbers: an enum and no closure, since the contract says by it which tag the node has.
 #[derive(Clone, Copy, PartialEq, Eq, Debug)]
 pub enum Operation {
     Add,

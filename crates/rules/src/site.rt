@@ -2,6 +2,7 @@
 
 // Of revision `revision`: where its snapshot's count, its local store's count and its expression start, and its redex.
 // The words are passed beside it: with them in one struct a clause would say work.entry.image.now, and not s.now.
+// Working (specs/Work.antt) is asked for by each rule and is no invariant: each asks for another tag, in those words.
 #[derive(Clone, Copy, PartialEq, Eq, Debug)]
 pub struct Site {
     pub revision: u16,

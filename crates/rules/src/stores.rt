@@ -1,6 +1,8 @@
 // The rules that put one entry into the local store: assign and ref.
 ghost use Rattle.rules.specs.Work.{Working, Acts};
 ghost use Rattle.rules.specs.Putting.{PutPlace, WroteStored};
+ghost use Rattle.words.specs.Tags.{word_of};
+ghost use Rattle.words.specs.declared.tags.Tag.TheVariants.{Assign, Ref};
 
 use crate::site::{Moved, Reason, Refusal, Site};
 use image::fresh::new_location;
@@ -28,13 +30,13 @@ fn store(s: &[u16], site: Site, l: u16, value: Range<usize>, new: &[u16], out: &
 
 // assign: the local store takes the value; result unit.
 pub fn assign(s: &[u16], site: Site, out: &mut [u16]) -> Result<Moved, Refusal>
-    requires { Working 12 s.now site }
-    ensures { Acts 12 s.now site out.old result out.new }
+    requires { Working (word_of Assign) s.now site }
+    ensures { Acts (word_of Assign) s.now site out.old result out.new }
 {
     let l = word_at(s, site.place + 2);
-    let Some(_) = look_up(s, site.snapshot, site.local, l) else {
+    if look_up(s, site.snapshot, site.local, l).is_none() {
         return Err(Refusal::Stuck(Reason::Location));
-    };
+    }
     let from = site.place + 3;
     let to = store(s, site, l, from..past(s, from), &[Tag::Unit as u16], out);
     Ok(Moved::To(to))
@@ -42,8 +44,8 @@ pub fn assign(s: &[u16], site: Site, out: &mut [u16]) -> Result<Moved, Refusal>
 
 // ref: a cell of the value at a new location; result the location.
 pub fn make(s: &[u16], site: Site, out: &mut [u16]) -> Result<Moved, Refusal>
-    requires { Working 10 s.now site }
-    ensures { Acts 10 s.now site out.old result out.new }
+    requires { Working (word_of Ref) s.now site }
+    ensures { Acts (word_of Ref) s.now site out.old result out.new }
 {
     let Some(l) = new_location(s) else {
         return Err(Refusal::NoNumber);

@@ -2,8 +2,8 @@
 use Rattle.rules.proofs.Storing.{put_place, assign_nothing, assign_done}
 use Rattle.rules.proofs.stores.assign.Goals as goal
 
-pub returns-in_default : goal.returns-in_default
-returns-in_default c = search assign_nothing
+pub returns-then-is_none : goal.returns-then-is_none
+returns-then-is_none c = search assign_nothing
 
 pub store-to-requires : goal.store-to-requires
 store-to-requires c = search put_place
