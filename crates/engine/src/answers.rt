@@ -5,14 +5,14 @@ ghost use Rattle.engine.specs.Answers as answers;
 use rules::site::{Reason, Refusal};
 use words::script::ScriptError;
 
-// A step taken, with the length of the image written: the next state's, or the empty state's.
+// A step taken, with the length of the image written: the next state's, or the empty state's, which is written too.
 #[derive(Clone, Copy, PartialEq, Eq, Debug)]
 pub enum Stepped {
     Moved(usize),
     Emptied(usize),
 }
 
-// Why a step is not taken.
+// Why a step is not taken: what the rules say, and what only a step does, in one flat enum as the numbers are one list.
 #[derive(Clone, Copy, PartialEq, Eq, Debug)]
 pub enum StepError {
     Finished,
@@ -41,10 +41,10 @@ impl From<Refusal> for StepError {
 // Why a script is not loaded.
 #[derive(Clone, Copy, PartialEq, Eq, Debug)]
 pub enum LoadError {
-    NotFormed,
-    HoldsHandle,
-    NotClosed,
-    NoRoom,
+    NoRoom = 9,
+    NotFormed = 10,
+    HoldsHandle = 11,
+    NotClosed = 12,
 }
 
 impl From<ScriptError> for LoadError {
@@ -62,10 +62,11 @@ impl From<ScriptError> for LoadError {
 // Why a run is refused.
 #[derive(Clone, Copy, PartialEq, Eq, Debug)]
 pub enum RunError {
-    NotValid,
-    NoRoom,
+    NotValid = 8,
+    NoRoom = 9,
 }
 
+// The numbers of a step's answers, as C gets them (host/pulleyrush.h).
 pub fn stepped_number(answer: Result<Stepped, StepError>) -> u16
     ensures { result ≡ answers.stepped_number answer }
 {
@@ -83,25 +84,23 @@ pub fn stepped_number(answer: Result<Stepped, StepError>) -> u16
     }
 }
 
+// The numbers of a load's answers, as C gets them (host/pulleyrush.h).
 pub fn loaded_number(answer: Result<usize, LoadError>) -> u16
     ensures { result ≡ answers.loaded_number answer }
 {
     match answer {
         Ok(_) => 0,
-        Err(LoadError::NoRoom) => 9,
-        Err(LoadError::NotFormed) => 10,
-        Err(LoadError::HoldsHandle) => 11,
-        Err(LoadError::NotClosed) => 12,
+        Err(error) => error as u16,
     }
 }
 
+// The numbers of a run's answers, as C gets them (host/pulleyrush.h).
 pub fn ran_number(answer: Result<usize, RunError>) -> u16
     ensures { result ≡ answers.ran_number answer }
 {
     match answer {
         Ok(_) => 0,
-        Err(RunError::NotValid) => 8,
-        Err(RunError::NoRoom) => 9,
+        Err(error) => error as u16,
     }
 }
 

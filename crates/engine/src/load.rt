@@ -6,7 +6,7 @@ ghost use Rattle.engine.specs.Promises.{LoadPromise};
 use crate::answers::LoadError;
 use words::buffers::clear;
 use words::script::check_script;
-use write::cursor::put_words;
+use write::cursor::{put_word, put_words};
 
 // The image of a script's first state into out: one revision, 0, with two empty stores and the script.
 fn write_first(script: &[u16], out: &mut [u16]) -> Result<usize, LoadError>
@@ -18,7 +18,7 @@ fn write_first(script: &[u16], out: &mut [u16]) -> Result<usize, LoadError>
         return Err(LoadError::NoRoom);
     }
     clear(out, 0);
-    put_words(out, 0, &[1]);
+    put_word(out, 0, 1);
     put_words(out, 4, script);
     Ok(n)
 }

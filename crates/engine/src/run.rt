@@ -8,7 +8,7 @@ use rules::advance::advance;
 use rules::site::Moved;
 use words::buffers::clear;
 
-// One pick, on the image in the first n words of the state buffer.
+// One pick, on the image in the first n words of the state buffer: the two are apart as C lends them.
 fn pick(state: &mut [u16], n: usize, r: u16, work: &mut [u16]) -> Result<Stepped, StepError>
     requires { Ready state.old n work.old }
     ensures { Tries state.old n r result state.new work.new }
@@ -28,7 +28,8 @@ fn pick(state: &mut [u16], n: usize, r: u16, work: &mut [u16]) -> Result<Stepped
     }
 }
 
-// Every pick in turn: the length of the last image.
+// Every pick in turn: the length of the last image. The answers are put by their index: of a slice that is walked with
+// iter_mut a proof knows the length and no element.
 fn try_all(
     state: &mut [u16],
     length: usize,

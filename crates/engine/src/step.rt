@@ -25,7 +25,7 @@ fn move_to(n: usize, work: &[u16], out: &mut [u16]) -> Result<Stepped, StepError
     Ok(Stepped::Moved(n))
 }
 
-// The image of the empty state, the one word 0, into out.
+// The image of the empty state, the one word 0, into out; the work buffer is taken for the clause, which is deliver's.
 fn empty(work: &[u16], out: &mut [u16]) -> Result<Stepped, StepError>
     ensures { Delivers Emptied work.now out.old result out.new }
 {

@@ -15,7 +15,7 @@ use image::report::{NotValid, report};
 use typing::CheckError;
 use words::in_use::InUse;
 
-// An answer of the paper: its number, and the length of what comes with it.
+// An answer of the paper: its number, and the length of what comes with it; no enum, since C holds it.
 #[repr(C)]
 #[derive(Drop)]
 pub struct PulleyrushAnswer {
