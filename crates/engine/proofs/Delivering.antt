@@ -2,7 +2,7 @@
 use Prim.Native.Nat.{ℕ, suc, ◌-◌, ◌<◌, ◌≤◌}
 use mathlib.Core.List.{List, [], ◌∷◌, ◌++◌}
 use mathlib.Core.Option.{none}
-use mathlib.Core.Path.{subst as along, ◌≡◌, refl, ap, ◌∙◌}
+use mathlib.Core.Path.{subst as along, ◌≡◌, refl, sym, ap, ◌∙◌}
 use native.Mathlib.Omega.{arith}
 use lib.ListN.{length, take, replicate}
 use Rattle.calculus.specs.States.{State}
@@ -145,9 +145,9 @@ moved_over n work out h =
           (omega arith);
     }
 
-pub moved : (n : ℕ) (work out out' : List ℕ) → n ≤ length work → n ≤ length out → Filled work n out out'
-    → Delivers (To n) work out (Ok (stepped.Moved n)) out'
-moved n work out out' h k f =
+pub moved : (n : ℕ) (work out words out' : List ℕ) → n ≤ length work → n ≤ length out → words ≡ take n work
+    → Filled words out out' → Delivers (To n) work out (Ok (stepped.Moved n)) out'
+moved n work out words out' h k i f =
     record {
       tells = λ o before size acted.
           let t = to_next o before n work acted in
@@ -158,7 +158,7 @@ moved n work out out' h k f =
           ∙ fits (length out) (answer 0 (image t.state)) (omega arith) (omega arith))
           (omega arith)
           l.0
-          (f.holds ∙ ap (λ (ws : List ℕ). ws ++ replicate (length out - n) 0) e);
+          (f.holds ∙ ap (λ (ws : List ℕ). ws ++ replicate (length out - length ws) 0) (i ∙ e) ∙ ap (λ k. image t.state ++ replicate (length out - k) 0) (sym l.0));
     }
 
 pub empty_no_room : (work out : List ℕ) → length out < 1 → Delivers Emptied work out (Err NoRoom) out

@@ -1,10 +1,11 @@
 -- Buffers that are cleared from a place on, and filled with a result and then zeros.
 use Prim.Native.Nat.{ℕ, ◌+◌, ◌-◌, ◌≤◌}
-use mathlib.Core.Path.{◌≡◌, refl, ap, ◌∙◌}
+use mathlib.Core.Path.{◌≡◌, refl, sym, ap, ◌∙◌}
 use mathlib.Core.List.{List, ◌++◌}
 use native.Mathlib.Omega.{arith}
 use lib.ListN.{length, take, drop, replicate, length-replicate, length-append, length-drop}
 use lib.Seq.{sets-eq, length-take-le, take_at, drop_at}
+use Rattle.std.proofs.Math.Seq.{take-length}
 use Rattle.write.specs.Cursor.{Wrote}
 use Rattle.words.specs.Buffers.{Cleared}
 use Rattle.engine.specs.Buffers.{Filled}
@@ -45,12 +46,13 @@ fronted s n o ys h k e =
     }
 
 -- and what is after them cleared
-pub filled : (s : List ℕ) (n : ℕ) (o ys o' : List ℕ) → n ≤ length s → n ≤ length o → ys ≡ take n s
-    → Cleared (ys ++ drop n o) n o' → Filled s n o o'
-filled s n o ys o' h k e c =
-    let f = fronted s n o ys h k e in
+pub filled : (words o ys o' : List ℕ) → length words ≤ length o → ys ≡ words
+    → Cleared (ys ++ drop (length words) o) (length words) o' → Filled words o o'
+filled words o ys o' h e c =
+    let n = length words in
+    let f = fronted words n o ys (omega arith) h (e ∙ sym (take-length words)) in
     record {
       holds = c.zeros
-          ∙ ap (λ (l : List ℕ). l ++ replicate (length (ys ++ drop n o) - n) 0) f.front
-          ∙ ap (λ k. take n s ++ replicate (k - n) 0) f.size;
+          ∙ ap (λ (l : List ℕ). l ++ replicate (length (ys ++ drop n o) - n) 0) (f.front ∙ take-length words)
+          ∙ ap (λ k. words ++ replicate (k - n) 0) f.size;
     }

@@ -4,11 +4,11 @@ ghost use Rattle.engine.specs.Buffers.{Filled};
 
 use words::buffers::clear;
 
-// The first n words of s, and then zeros.
-pub fn fill(buffer: &mut [u16], s: &[u16], n: usize)
-    requires { (n ≤ length s.now) × (n ≤ length buffer.old) }
-    ensures { Filled s.now n buffer.old buffer.new }
+// The words, and then zeros.
+pub fn fill(buffer: &mut [u16], words: &[u16])
+    requires { length words.now ≤ length buffer.old }
+    ensures { Filled words.now buffer.old buffer.new }
 {
-    buffer[..n].copy_from_slice(&s[..n]);
-    clear(buffer, n);
+    buffer[..words.len()].copy_from_slice(words);
+    clear(buffer, words.len());
 }

@@ -21,7 +21,7 @@ fn move_to(n: usize, work: &[u16], out: &mut [u16]) -> Result<Stepped, StepError
     if out.len() < n {
         return Err(StepError::NoRoom);
     }
-    fill(out, work, n);
+    fill(out, &work[..n]);
     Ok(Stepped::Moved(n))
 }
 
