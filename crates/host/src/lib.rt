@@ -17,7 +17,7 @@ use words::in_use::InUse;
 
 // An answer of the paper: its number, and the length of what comes with it; no enum, since C holds it.
 #[repr(C)]
-#[derive(Drop)]
+#[derive(Clone, Copy, PartialEq, Eq, Debug)]
 pub struct PulleyrushAnswer {
     pub number: u32,
     pub length: usize,
@@ -25,7 +25,7 @@ pub struct PulleyrushAnswer {
 
 // A report: its number, how many revision numbers are in use, and for each of them the bit of that number.
 #[repr(C)]
-#[derive(Drop)]
+#[derive(Clone, Copy, PartialEq, Eq, Debug)]
 pub struct PulleyrushReport {
     pub number: u32,
     pub count: u32,
