@@ -8,8 +8,10 @@ use mathlib.Core.Path.{◌≡◌, subst, sym, refl, ap, ◌∙◌}
 use native.Mathlib.Omega.{arith}
 use lib.ListN.{get_or, length, length-append}
 use Rattle.typing.specs.declared.rules.Ask.{Ask}
-use Rattle.std.specs.Prelude.{Option, Some, None, Err}
+use Rattle.std.specs.Prelude.{Option, Some, None, Result, Ok, Err}
+use Rattle.std.specs.Option.{ok_or}
 use Rattle.std.proofs.lemmas.Option.{none-some, same_Some}
+use Rattle.typing.specs.declared.CheckError.{CheckError}
 use Rattle.typing.specs.declared.CheckError.TheVariants.{NoType}
 use Rattle.words.specs.declared.tags.Tag.{Tag}
 use Rattle.words.specs.declared.tags.Tag.TheVariants.{Lambda, Apply, Read, Assign, Fork, Join}
@@ -125,69 +127,21 @@ module _ (s t : List ℕ) (i j : ℕ) (h : Head) where
   head_basic_no b A k e =
       equal_none A (basic b) (λ q. e (same_Some _ _ (subst (λ (X : ScriptType). HeadIs s t i j X (Some h)) q k)))
 
+-- where a head was asked for, and `?` went on or gave up
+pub head_some : (o : Option Head) (x : Result Head CheckError) (h : Head) → x ≡ ok_or o NoType → x ≡ Ok h → o ≡ Some h
+head_some (Some k) x h p q = cc
+head_some None x h p q = absurd cc
+
+pub head_none : (o : Option Head) (x : Result Head CheckError) (n : CheckError) → x ≡ ok_or o NoType → x ≡ Err n → o ≡ None
+head_none (Some k) x n p q = absurd cc
+head_none None x n p q = refl
+
 -- one child
-module _ (s t : List ℕ) (at a e : ℕ) (o : Option Head) (y : Headed s t a o) where
-  -- a position that stands for no type
-  pub one_nowhere : (r : Inferred) → o ≡ None → RuleOne s t at a e r
-  one_nowhere r z = record {
-    one = λ i o A g b c d m. absurd (is_head s t i e A _ (y.is i e A m) z);
-    lambda = λ i A B g b c d v m. absurd (is_head s t i e B _ (y.is i e B m) z);
-  }
-
-module _ (s t : List ℕ) (at a e : ℕ) (o : Option Head) (y : Headed s t a o) (h : Head) (f : o ≡ Some h) (g : Tag)
-    (q : word_of g ≡ get_or s at 0) where
-  headed_one : (i : ℕ) (A : ScriptType) → Means s t i e a A → HeadIs s t i e A (Some h)
-  headed_one i A m = subst (λ (z : Option Head). HeadIs s t i e A z) f (y.is i e A m)
-
+module _ (s t : List ℕ) (at a e : ℕ) (g : Tag) (q : word_of g ≡ get_or s at 0) where
   not_lambda : (r : Inferred) → (g ≡ Lambda → ⊥)
       → (i : ℕ) (A B : ScriptType) → get_or s at 0 ≡ tag_word lambda_tag → i ≤ at → at < e → get_or t at 0 ≡ a
       → Written s (at + 2) A → Means s t i e a B → Answers s t i e r (some (function A B))
   not_lambda r n i A B k = absurd (n (same_tag g Lambda (q ∙ k)))
-
-  pub read_yes : (n : ℕ) → g ≡ Read → h ≡ Reference n → RuleOne s t at a e (typed n e)
-  read_yes n z k = record { one = go; lambda = not_lambda (typed n e) (λ u. absurd (omega (arith, ap word_of (sym u ∙ z)))) }
-    where
-      go : (i : ℕ) (o : One) (A : ScriptType) → get_or s at 0 ≡ tag_word (one_tag o) → i ≤ at → at < e
-          → get_or t at 0 ≡ a → Means s t i e a A → Answers s t i e (typed n e) (one_type o A)
-      go i ref A l b c d m = absurd (omega (arith, ap word_of z))
-      go i read A l b c d m =
-          let (B, p, v) = head_reference_yes s t i e h n A (headed_one i A m) k in
-          ans_some s t i e n B (as_reference A) (ap as_reference p) v
-      go i fork A l b c d m = absurd (omega (arith, ap word_of z))
-      go i join A l b c d m = absurd (omega (arith, ap word_of z))
-
-  pub read_no : g ≡ Read → ((n : ℕ) → h ≡ Reference n → ⊥) → RuleOne s t at a e (Err NoType)
-  read_no z k = record { one = go; lambda = not_lambda (Err NoType) (λ u. absurd (omega (arith, ap word_of (sym u ∙ z)))) }
-    where
-      go : (i : ℕ) (o : One) (A : ScriptType) → get_or s at 0 ≡ tag_word (one_tag o) → i ≤ at → at < e
-          → get_or t at 0 ≡ a → Means s t i e a A → Answers s t i e (Err NoType) (one_type o A)
-      go i ref A l b c d m = absurd (omega (arith, ap word_of z))
-      go i read A l b c d m = ans_none s t i e (as_reference A) (head_reference_no s t i e h A (headed_one i A m) k)
-      go i fork A l b c d m = absurd (omega (arith, ap word_of z))
-      go i join A l b c d m = absurd (omega (arith, ap word_of z))
-
-  pub join_yes : g ≡ Join → h ≡ Rev → RuleOne s t at a e (typed at e)
-  unfolding basic_of
-  join_yes z k = record { one = go; lambda = not_lambda (typed at e) (λ u. absurd (omega (arith, ap word_of (sym u ∙ z)))) }
-    where
-      go : (i : ℕ) (o : One) (A : ScriptType) → get_or s at 0 ≡ tag_word (one_tag o) → i ≤ at → at < e
-          → get_or t at 0 ≡ a → Means s t i e a A → Answers s t i e (typed at e) (one_type o A)
-      go i ref A l b c d m = absurd (omega (arith, ap word_of z))
-      go i read A l b c d m = absurd (omega (arith, ap word_of z))
-      go i fork A l b c d m = absurd (omega (arith, ap word_of z))
-      go i join A l b c d m =
-          ans_basic s t i e at unit_type _ (rw (equal_some A (basic rev_type) (head_basic_yes s t i e h rev_type A
-          (headed_one i A m) k))) (rw l)
-
-  pub join_no : g ≡ Join → (h ≡ Rev → ⊥) → RuleOne s t at a e (Err NoType)
-  join_no z k = record { one = go; lambda = not_lambda (Err NoType) (λ u. absurd (omega (arith, ap word_of (sym u ∙ z)))) }
-    where
-      go : (i : ℕ) (o : One) (A : ScriptType) → get_or s at 0 ≡ tag_word (one_tag o) → i ≤ at → at < e
-          → get_or t at 0 ≡ a → Means s t i e a A → Answers s t i e (Err NoType) (one_type o A)
-      go i ref A l b c d m = absurd (omega (arith, ap word_of z))
-      go i read A l b c d m = absurd (omega (arith, ap word_of z))
-      go i fork A l b c d m = absurd (omega (arith, ap word_of z))
-      go i join A l b c d m = ans_none s t i e _ (rw (head_basic_no s t i e h rev_type A (headed_one i A m) k))
 
   pub itself : (g ≡ Read → ⊥) → (g ≡ Join → ⊥) → RuleOne s t at a e (typed at e)
   unfolding basic_of Means Answers
@@ -205,6 +159,64 @@ module _ (s t : List ℕ) (at a e : ℕ) (o : Option Head) (y : Headed s t a o) 
 
   pub of_fork : g ≡ Fork → RuleOne s t at a e (typed at e)
   of_fork k = itself (λ z. absurd (omega (arith, ap word_of (sym k ∙ z)))) (λ z. absurd (omega (arith, ap word_of (sym k ∙ z))))
+
+module _ (s t : List ℕ) (at a e : ℕ) (o : Option Head) (y : Headed s t a o) where
+  -- a position that stands for no type
+  pub one_nowhere : (r : Inferred) → o ≡ None → RuleOne s t at a e r
+  one_nowhere r z = record {
+    one = λ i o A g b c d m. absurd (is_head s t i e A _ (y.is i e A m) z);
+    lambda = λ i A B g b c d v m. absurd (is_head s t i e B _ (y.is i e B m) z);
+  }
+
+module _ (s t : List ℕ) (at a e : ℕ) (o : Option Head) (y : Headed s t a o) (h : Head) (f : o ≡ Some h) (g : Tag)
+    (q : word_of g ≡ get_or s at 0) where
+  headed_one : (i : ℕ) (A : ScriptType) → Means s t i e a A → HeadIs s t i e A (Some h)
+  headed_one i A m = subst (λ (z : Option Head). HeadIs s t i e A z) f (y.is i e A m)
+
+  pub read_yes : (n : ℕ) → g ≡ Read → h ≡ Reference n → RuleOne s t at a e (typed n e)
+  read_yes n z k = record { one = go; lambda = not_lambda s t at a e g q (typed n e) (λ u. absurd (omega (arith, ap word_of (sym u ∙ z)))) }
+    where
+      go : (i : ℕ) (o : One) (A : ScriptType) → get_or s at 0 ≡ tag_word (one_tag o) → i ≤ at → at < e
+          → get_or t at 0 ≡ a → Means s t i e a A → Answers s t i e (typed n e) (one_type o A)
+      go i ref A l b c d m = absurd (omega (arith, ap word_of z))
+      go i read A l b c d m =
+          let (B, p, v) = head_reference_yes s t i e h n A (headed_one i A m) k in
+          ans_some s t i e n B (as_reference A) (ap as_reference p) v
+      go i fork A l b c d m = absurd (omega (arith, ap word_of z))
+      go i join A l b c d m = absurd (omega (arith, ap word_of z))
+
+  pub read_no : g ≡ Read → ((n : ℕ) → h ≡ Reference n → ⊥) → RuleOne s t at a e (Err NoType)
+  read_no z k = record { one = go; lambda = not_lambda s t at a e g q (Err NoType) (λ u. absurd (omega (arith, ap word_of (sym u ∙ z)))) }
+    where
+      go : (i : ℕ) (o : One) (A : ScriptType) → get_or s at 0 ≡ tag_word (one_tag o) → i ≤ at → at < e
+          → get_or t at 0 ≡ a → Means s t i e a A → Answers s t i e (Err NoType) (one_type o A)
+      go i ref A l b c d m = absurd (omega (arith, ap word_of z))
+      go i read A l b c d m = ans_none s t i e (as_reference A) (head_reference_no s t i e h A (headed_one i A m) k)
+      go i fork A l b c d m = absurd (omega (arith, ap word_of z))
+      go i join A l b c d m = absurd (omega (arith, ap word_of z))
+
+  pub join_yes : g ≡ Join → h ≡ Rev → RuleOne s t at a e (typed at e)
+  unfolding basic_of
+  join_yes z k = record { one = go; lambda = not_lambda s t at a e g q (typed at e) (λ u. absurd (omega (arith, ap word_of (sym u ∙ z)))) }
+    where
+      go : (i : ℕ) (o : One) (A : ScriptType) → get_or s at 0 ≡ tag_word (one_tag o) → i ≤ at → at < e
+          → get_or t at 0 ≡ a → Means s t i e a A → Answers s t i e (typed at e) (one_type o A)
+      go i ref A l b c d m = absurd (omega (arith, ap word_of z))
+      go i read A l b c d m = absurd (omega (arith, ap word_of z))
+      go i fork A l b c d m = absurd (omega (arith, ap word_of z))
+      go i join A l b c d m =
+          ans_basic s t i e at unit_type _ (rw (equal_some A (basic rev_type) (head_basic_yes s t i e h rev_type A
+          (headed_one i A m) k))) (rw l)
+
+  pub join_no : g ≡ Join → (h ≡ Rev → ⊥) → RuleOne s t at a e (Err NoType)
+  join_no z k = record { one = go; lambda = not_lambda s t at a e g q (Err NoType) (λ u. absurd (omega (arith, ap word_of (sym u ∙ z)))) }
+    where
+      go : (i : ℕ) (o : One) (A : ScriptType) → get_or s at 0 ≡ tag_word (one_tag o) → i ≤ at → at < e
+          → get_or t at 0 ≡ a → Means s t i e a A → Answers s t i e (Err NoType) (one_type o A)
+      go i ref A l b c d m = absurd (omega (arith, ap word_of z))
+      go i read A l b c d m = absurd (omega (arith, ap word_of z))
+      go i fork A l b c d m = absurd (omega (arith, ap word_of z))
+      go i join A l b c d m = ans_none s t i e _ (rw (head_basic_no s t i e h rev_type A (headed_one i A m) k))
 
 -- two children
 equal_sym : (A B : ScriptType) → equal A B ≡ equal B A

@@ -87,21 +87,18 @@ pub fn rule_one(node: Node, links: &[u16], child: Typed) -> Result<Typed, CheckE
     let end = child.end;
     let itself = Typed { held: at, end };
     let types = Held { script, links };
-    let Some(head) = types.head(child.held) else {
-        return Err(CheckError::NoType);
-    };
     match node.tag {
         // lambda: the function from its annotation to its body's type
         Tag::Lambda => Ok(itself),
         // read: what is referred to
-        Tag::Read => match head {
+        Tag::Read => match types.head(child.held).ok_or(CheckError::NoType)? {
             Head::Reference { rest } => Ok(Typed { held: rest, end }),
             _ => Err(CheckError::NoType),
         },
         // fork: rev, whatever its body's type
         Tag::Fork => Ok(itself),
         // join: unit, of a rev
-        Tag::Join => match head {
+        Tag::Join => match types.head(child.held).ok_or(CheckError::NoType)? {
             Head::Rev => Ok(itself),
             _ => Err(CheckError::NoType),
         },
@@ -118,6 +115,7 @@ pub struct Ask {
 }
 
 // Apply asks for a function and its argument, assign for a reference and what it refers to, the others for numbers.
+// A match in each arm: over the pair of tag and head, a proof does not know in the arm `(Tag::Apply, _)` what is ruled out.
 fn ask_of(node: Node, first: u16, head: Head) -> Option<Ask>
     ensures { Asks node.entry.script.words.now node.entry.at first head result }
 {
@@ -154,9 +152,7 @@ pub fn rule_two(node: Node, links: &[u16], second: Typed) -> Result<Typed, Check
     let Node { script, at, .. } = node;
     let types = Held { script, links };
     let first = word_at(links, at as usize);
-    let Some(head) = types.head(first) else {
-        return Err(CheckError::NoType);
-    };
+    let head = types.head(first).ok_or(CheckError::NoType)?;
     let Some(ask) = ask_of(node, first, head) else {
         return Err(CheckError::NoType);
     };
@@ -181,10 +177,8 @@ pub fn rule_three(
 {
     let Node { script, at, .. } = node;
     let types = Held { script, links };
-    let Some(head) = types.head(word_at(links, at as usize)) else {
-        return Err(CheckError::NoType);
-    };
-    let Head::Bool = head else {
+    let first = word_at(links, at as usize);
+    let Head::Bool = types.head(first).ok_or(CheckError::NoType)? else {
         return Err(CheckError::NoType);
     };
     if types.same(second.held, third.held) {
