@@ -15,7 +15,8 @@ use Rattle.calculus.specs.Types.{ScriptType}
 use Rattle.calculus.specs.Typing.{Assignment, type_of, no_world}
 use Rattle.calculus.specs.Words.{type_words, words}
 use Rattle.typing.specs.Held.{Means, Small}
-use Rattle.typing.specs.Inferring.{Keeps, Stands, Infers, Kept, Passed, words_all}
+use Rattle.typing.specs.Inferring.{Keeps, Stands, Infers, Kept, Passed}
+use Rattle.words.specs.Names.{all_words, AllFormed}
 use Rattle.typing.specs.Rulings.{Inferred, typed, Scope, Noted, Answers}
 use Rattle.calculus.proofs.Options.{none≢some, some_inj}
 use Rattle.typing.proofs.Ends.{written_in}
@@ -101,11 +102,12 @@ module _ (s t t' : List ℕ) (at left : ℕ) (x : Inferred) (e : Expression) (Γ
 -- the next child
 pub next_stands : (s t t' : List ℕ) (at f left end : ℕ) (Γ : Assignment) (e : Expression) (es : List Expression)
     → length s ≤ 2048 → Passed s t at f left t' Γ (e ∷ es) end → Stands s t' f left e Γ
+unfolding all_words AllFormed
 next_stands s t t' at f left end Γ e es h p =
-    let l = length-append (words e) (words_all es) in
+    let l = length-append (words e) (all_words es) in
     record {
-      rest = words_all es ++ p.rest;
-      is = p.is ∙ append_assoc (words e) (words_all es) p.rest;
+      rest = all_words es ++ p.rest;
+      is = p.is ∙ append_assoc (words e) (all_words es) p.rest;
       few = omega (arith, p.few);
       formed = p.formed.0;
       room = p.room;
@@ -125,15 +127,15 @@ pub record Next (s t : List ℕ) (at f g left : ℕ) (t' t'' : List ℕ) (Γ : A
 pub next : (s t t' t'' : List ℕ) (at f g left b end : ℕ) (Γ : Assignment) (e : Expression) (es : List Expression)
     (y : Inferred) → length s ≤ 2048 → y ≡ typed b g → Infers s f left t' y t''
     → Passed s t at f left t' Γ (e ∷ es) end → Next s t at f g left t' t'' Γ e es b end
-unfolding next_stands
+unfolding next_stands all_words AllFormed
 next s t t' t'' at f g left b end Γ e es y h q c p =
     let d = next_stands s t t' at f left end Γ e es h p in
     let k = child s t' t'' f left y e Γ c d b g h p.high q in
-    let l = length-append (words e) (words_all es) in
+    let l = length-append (words e) (all_words es) in
     record {
       pass = record {
         rest = p.rest;
-        is = rw k.end (past s f (words e) (words_all es ++ p.rest) d.is);
+        is = rw k.end (past s f (words e) (all_words es ++ p.rest) d.is);
         few = omega (arith, p.few);
         formed = p.formed.1;
         room = c.room ∙ p.room;

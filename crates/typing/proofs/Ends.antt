@@ -9,19 +9,14 @@ use lib.Seq.{take_at}
 use Rattle.std.specs.Prelude.{Some, None}
 use Rattle.calculus.specs.Reading.{type_end, read_type}
 use Rattle.calculus.specs.Tags.{type_tag_word, basic_tag}
-use Rattle.calculus.specs.Types.{ScriptType, basic, reference, function, Basic, unit_type, bool_type, num_type, rev_type}
+use Rattle.calculus.specs.Types.{ScriptType, Basic, unit_type, bool_type, num_type, rev_type}
 use Rattle.calculus.specs.Words.{type_words}
 use Rattle.words.specs.Walks.{walk_of}
 use Rattle.typing.specs.Held.{Written, Named}
 use Rattle.calculus.proofs.Options.{▸-some, some_inj, none≢some}
 use Rattle.words.proofs.Children.{walk_ends, walk_broken}
+use Rattle.words.proofs.Ends.{type_words_long}
 use Rattle.calculus.proofs.Reading.{read_type_words, type_words_read}
-
-pub wide : (A : ScriptType) → 1 ≤ length (type_words A)
-unfolding type_words
-wide (basic b) = omega arith
-wide (reference A) = omega arith
-wide (function A B) = omega arith
 
 pub basic_36 : (b : Basic) → type_tag_word (basic_tag b) < 36
 basic_36 unit_type = omega arith
@@ -39,7 +34,7 @@ basic_32 rev_type = omega arith
 pub written_in : (s : List ℕ) (p : ℕ) (A : ScriptType) → Written s p A → p + length (type_words A) ≤ length s
 written_in s p A w =
     let z : length (drop p s) ≡ length (type_words A ++ w.rest) = ap length w.is in
-    omega (arith, wide A, length-drop p s, simp length-append at z)
+    omega (arith, type_words_long A, length-drop p s, simp length-append at z)
 
 pub type_end_of : (s : List ℕ) (p : ℕ) (A : ScriptType) → Written s p A
     → type_end s p ≡ some (p + length (type_words A))
@@ -55,7 +50,7 @@ type_end_in s p e h =
     let w : Written s p q.0 = record { rest = q.1; is = (type_words_read (length s) (drop p s) q u).0 } in
     let l = written_in s p q.0 w in
     let z : p + length (type_words q.0) ≡ e = some_inj v in
-    (omega (arith, wide q.0), omega arith)
+    (omega (arith, type_words_long q.0), omega arith)
 
 -- what a walk over the type at p tells
 module _ (s : List ℕ) (p e : ℕ) (q : Some e ≡ walk_of (type_end s p)) where

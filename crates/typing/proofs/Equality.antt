@@ -27,7 +27,8 @@ use Rattle.calculus.specs.Tags.{type_tag_word, basic_tag}
 use Rattle.calculus.specs.Types.{basic, Basic, unit_type, bool_type, num_type, rev_type, ScriptType, reference, function}
 use Rattle.calculus.specs.Words.{type_words}
 use Rattle.typing.specs.Held.{HeadIs, Alike, SameHeads, Named, Means, SameTypes, Headed, basic_head, head_tag, head_rest}
-use Rattle.typing.proofs.Ends.{basic_36, wide}
+use Rattle.words.proofs.Ends.{type_words_long}
+use Rattle.typing.proofs.Ends.{basic_36}
 
 pub no_way : {C : Type 0} → false ≡ true → C
 no_way e = absurd (let z : ◌≡◌ {A = ℕ} 0 1 = cc in omega arith)
@@ -290,7 +291,7 @@ module _ (s t : List ℕ) (p₀ q₀ p q n : ℕ) (c : SameSo s t p₀ q₀ p q 
   pub same_none : 4096 ≤ n → SameTypes s t p₀ q₀ false
   same_none z = record {
     is = λ i j A B m k h. let l = c.is i j A B m k h in
-        absurd (omega (arith, wide l.one, l.small));
+        absurd (omega (arith, type_words_long l.one, l.small));
   }
 
   -- a position that stands for no type

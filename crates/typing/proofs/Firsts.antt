@@ -20,7 +20,8 @@ use Rattle.calculus.specs.Words.{words, type_words}
 use Rattle.std.specs.Prelude.{Option, Some}
 use Rattle.std.proofs.lemmas.Option.{same_Some}
 use Rattle.typing.specs.Held.{Written}
-use Rattle.typing.specs.Inferring.{words_all, FormedAll, Stands, Infers, First, Keeps}
+use Rattle.words.specs.Names.{all_words, AllFormed}
+use Rattle.typing.specs.Inferring.{Stands, Infers, First, Keeps}
 use Rattle.typing.specs.Rulings.{Inferred, typed, Enters, entered, ended, Noted}
 use Rattle.typing.proofs.Children.{child}
 use Rattle.typing.proofs.Ends.{written_in}
@@ -29,10 +30,10 @@ use Rattle.typing.proofs.Meaning.{frame}
 
 -- a node that is no lambda: its tag, its first child, and the others
 pub record Branch (e : Expression) (w : ℕ) (a : Expression) (es : List Expression) : Type 0 where
-  pub is : words e ≡ w ∷ (words a ++ words_all es)
+  pub is : words e ≡ w ∷ (words a ++ all_words es)
   pub other : w ≡ 7 → ⊥
   pub first : Formed e → Formed a
-  pub others : Formed e → FormedAll es
+  pub others : Formed e → AllFormed es
 
 pub one_tag_lem : (o : One) → tag_word (one_tag o) ≡ 7 → ⊥
 one_tag_lem ref z = omega arith
@@ -48,17 +49,17 @@ two_tag_lem (arithmetic subtract) z = omega arith
 two_tag_lem (arithmetic less) z = omega arith
 
 pub branch_one : (o : One) (e : Expression) → Branch (one o e) (tag_word (one_tag o)) e []
-unfolding words Formed
+unfolding words Formed all_words AllFormed
 branch_one o e =
     record { is = rw (append-nil (words e)); other = one_tag_lem o; first = λ f. f; others = λ f. tt }
 
 pub branch_two : (o : Two) (a b : Expression) → Branch (two o a b) (tag_word (two_tag o)) a (b ∷ [])
-unfolding words Formed
+unfolding words Formed all_words AllFormed
 branch_two o a b =
     record { is = rw (append-nil (words b)); other = two_tag_lem o; first = λ f. f.0; others = λ f. (f.1, tt) }
 
 pub branch_if : (a b c : Expression) → Branch (if a b c) 9 a (b ∷ c ∷ [])
-unfolding words Formed
+unfolding words Formed all_words AllFormed
 branch_if a b c =
     record {
       is = rw (append-nil (words c));
@@ -102,7 +103,7 @@ module _ (s t t₁ : List ℕ) (at p left : ℕ) (h : length s ≤ 2048) (n : En
   -- no lambda
   module _ (e : Expression) (w : ℕ) (a : Expression) (es : List Expression) (Γ : Assignment) (b : Branch e w a es)
       (d : Stands s t at left e Γ) where
-    front_of_lem : Front s at w ((words a ++ words_all es) ++ d.rest)
+    front_of_lem : Front s at w ((words a ++ all_words es) ++ d.rest)
     front_of_lem = front s at w _ (d.is ∙ ap (λ (l : List ℕ). l ++ d.rest) b.is)
 
     not_lambda : get_or s at 0 ≡ 7 → ⊥
@@ -112,13 +113,13 @@ module _ (s t t₁ : List ℕ) (at p left : ℕ) (h : length s ≤ 2048) (n : En
     unfolding entered
     untouched = n.table ∙ rw (ne_eqb (get_or s at 0) 7 not_lambda)
 
-    long : length (words e) ≡ suc (length (words a) + length (words_all es))
-    long = ap length b.is ∙ ap suc (length-append (words a) (words_all es))
+    long : length (words e) ≡ suc (length (words a) + length (all_words es))
+    long = ap length b.is ∙ ap suc (length-append (words a) (all_words es))
 
     pub other_stands : Stands s t₁ p (left - 1) a Γ
     other_stands = record {
-      rest = words_all es ++ d.rest;
-      is = rw (n.first not_lambda) (front_of_lem.next ∙ append_assoc (words a) (words_all es) d.rest);
+      rest = all_words es ++ d.rest;
+      is = rw (n.first not_lambda) (front_of_lem.next ∙ append_assoc (words a) (all_words es) d.rest);
       few = let l = long in omega (arith, d.few);
       formed = b.first d.formed;
       room = ap length untouched ∙ d.room;
@@ -138,7 +139,7 @@ module _ (s t t₁ : List ℕ) (at p left : ℕ) (h : length s ≤ 2048) (n : En
         record {
           pass = record {
             rest = d.rest;
-            is = rw k.end (past s p (words a) (words_all es ++ d.rest) other_stands.is);
+            is = rw k.end (past s p (words a) (all_words es ++ d.rest) other_stands.is);
             few = omega (arith, d.few);
             formed = b.others d.formed;
             room = ap length y ∙ length-set t₂ at i ∙ r;
@@ -251,7 +252,7 @@ module _ (s t t₁ : List ℕ) (at p left : ℕ) (h : length s ≤ 2048) (n : En
 
     pub lambda_first : (t₂ t₃ : List ℕ) (z : Inferred) (i f : ℕ) → z ≡ typed i f → Infers s p (left - 1) t₁ z t₂
         → t₃ ≡ ended s at i t₂ → First s t at f (left - 1) t₃ (lambda x A e) Γ e (bind x A Γ) [] i
-    unfolding ended words
+    unfolding ended words all_words AllFormed
     lambda_first t₂ t₃ z i f q c g =
         let l = lambda_at in
         let st = l.start in

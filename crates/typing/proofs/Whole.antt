@@ -10,6 +10,7 @@ use lib.Dec.{eqb}
 use lib.ListN.{get_or, length, set, length-set}
 use Rattle.std.specs.Prelude.{Option, Some, None, Err}
 use Rattle.std.proofs.lemmas.Option.{none-some, same_Some}
+use Rattle.words.specs.Names.{all_words}
 use Rattle.typing.specs.declared.CheckError.{CheckError}
 use Rattle.typing.specs.declared.CheckError.TheVariants.{NoType, NotFormed}
 use Rattle.words.specs.declared.table.Row.{Row}
@@ -275,7 +276,7 @@ module _ (s t t₁ t₂ : List ℕ) (at p left : ℕ) (n : Row) (x : Inferred) (
     other e Γ w' d es b k = other_first s t t₁ at p left h en e w' d es Γ b k t₂ t₃ x a f w c en₃
 
     pub infer_one : (r : Inferred) → n.children ≡ 1 → RuleOne s t₃ at a f r → Infers s at left t r t₃
-    unfolding type_of tag_of_e
+    unfolding type_of tag_of_e all_words
     infer_one r k u = record {
       room = long₃;
       settles = λ e Γ d. go e Γ d (stands_children s t at left n e Γ q d) (front_of_lem s t at left e Γ d).tag;
@@ -351,7 +352,7 @@ module _ (s t₃ t₄ : List ℕ) (at f left : ℕ) (y : Inferred) (h : length s
     not_if (arithmetic less) z = omega arith
 
     pub others_two : (r : Inferred) → (v ≡ IfTag → ⊥) → RuleTwo s t₄ at b g r → Goes s at left t₃ f r t₄
-    unfolding type_of
+    unfolding type_of all_words
     others_two r z u = record { room = c.room; two = go; three = λ a d l Γ t p k F. absurd (z (same_tag v IfTag (i ∙ k))) }
       where
         go : (o : Two) (a d : Expression) (Γ : Assignment) (t : List ℕ) (p : ℕ) → get_or s at 0 ≡ tag_word (two_tag o)
@@ -384,7 +385,7 @@ module _ (s t₃ t₄ : List ℕ) (at f left : ℕ) (y : Inferred) (h : length s
               refuse s at (if a d l) Γ t x t₅ (rw (F.typed, N.typed, j), n)
 
       pub others_three : (n e : ℕ) (r : Inferred) → x ≡ typed n e → RuleThree s t₅ at b n e r → Goes s at left t₃ f r t₅
-      unfolding type_of
+      unfolding type_of all_words
       others_three n e r q u = record { room = room₅; two = λ o a d Γ t p k F. no_two o k; three = go }
         where
           go : (a d l : Expression) (Γ : Assignment) (t : List ℕ) (p : ℕ) → get_or s at 0 ≡ tag_word if_tag

@@ -7,6 +7,7 @@ use Rattle.calculus.specs.Tags.{tag_word, two_tag, if_tag}
 use Rattle.calculus.specs.Types.{ScriptType}
 use Rattle.calculus.specs.Typing.{Assignment, type_of, no_world}
 use Rattle.calculus.specs.Words.{words}
+use Rattle.words.specs.Names.{all_words, AllFormed}
 use Rattle.typing.specs.Held.{Means, Small}
 use Rattle.typing.specs.Rulings.{Scope, Answers, Inferred}
 
@@ -37,27 +38,19 @@ pub record Infers (s : List ℕ) (at left : ℕ) (t : List ℕ) (r : Inferred) (
   pub room : length t' ≡ length t
   pub settles : (e : Expression) (Γ : Assignment) → Stands s t at left e Γ → Settled s at e Γ t r t'
 
-abbrev pub words_all : List Expression → List ℕ
-words_all [] = []
-words_all (e ∷ es) = words e ++ words_all es
-
-abbrev pub FormedAll : List Expression → Type 0
-FormedAll [] = Unit {0}
-FormedAll (e ∷ es) = Formed e × FormedAll es
-
 -- f is reached in the node at `at`, which ends at `end`; the children `todo` are to come
 pub record Passed (s t : List ℕ) (at f left : ℕ) (t' : List ℕ) (Γ : Assignment) (todo : List Expression) (end : ℕ)
     : Type 0 where
   pub rest : List ℕ
-  pub is : drop f s ≡ words_all todo ++ rest
-  pub few : length (words_all todo) ≤ left
-  pub formed : FormedAll todo
+  pub is : drop f s ≡ all_words todo ++ rest
+  pub few : length (all_words todo) ≤ left
+  pub formed : AllFormed todo
   pub room : length t' ≡ 8192
   pub scope : Scope s t Γ
   pub keeps : Keeps at f t t'
   pub low : at < f
   pub high : f ≤ length s
-  pub size : f + length (words_all todo) ≡ end
+  pub size : f + length (all_words todo) ≡ end
 
 -- after the first child d of e, whose type is held at p, which is the link of the node at `at`
 pub record First (s t : List ℕ) (at f left : ℕ) (t₃ : List ℕ) (e : Expression) (Γ : Assignment) (d : Expression)

@@ -110,7 +110,7 @@ impl<'a> Held<'a> {
         let words = self.script.words;
         let i = p as usize;
         let Some(tag) = Tag::of(word_at(words, i)) else {
-            return head_in(words.get(i..)?, p);
+            return head_in(&words[i..], p);
         };
         let link = word_at(self.links, i);
         match tag {

@@ -1,11 +1,11 @@
 -- `typing::types::Held::head` meets its contract: one law for each way through it.
-use Rattle.std.proofs.Common.{rules}
+use Rattle.std.proofs.Common.{refl, rules}
 use Rattle.typing.proofs.Meaning.{head_variable, head_lambda, head_ref, head_basic, head_part}
 use Rattle.typing.proofs.types.Held.head.Goals as goal
 
 pub returns-in_default : goal.returns-in_default
 returns-in_default c =
-    head_part _ _ _ _ c.word_at.ensures _ _ c.in_default.ensures c.in_ok-get.ensures.lookup.0.2 c.head_in.ensures
+    head_part _ _ _ _ c.word_at.ensures _ _ c.in_default.ensures refl c.head_in.ensures
 
 pub returns-in-Variable : goal.returns-in-Variable
 returns-in-Variable c = search (rules, head_variable, c.in-Some.ensures)
