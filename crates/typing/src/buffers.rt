@@ -19,8 +19,12 @@ pub fn copy(part: &[u16], out: &mut [u16], to: usize) -> usize
     ensures { (result ≡ to + length part.now)
         × (out.new ≡ sets out.old to part.now) }
 {
-    for (i, word) in part.iter().enumerate() {
-        put(out, to + i, *word);
+    let end = to + part.len();
+    if end <= out.len() {
+        out[to..end].copy_from_slice(part);
+    } else if to < out.len() {
+        let room = out.len() - to;
+        out[to..].copy_from_slice(&part[..room]);
     }
-    to + part.len()
+    end
 }
