@@ -9,7 +9,7 @@ use native.Mathlib.Omega.{arith}
 use lib.Dec.{leb}
 use lib.ListN.{length, get_or, drop, length-append, length-drop}
 use lib.Seq.{drop-drop, drop-append_seam, get_or-drop}
-use borrow.Author.Tests.{le-leb, lt-leb}
+use borrow.Author.Tests.{le-leb, lt-leb, true-leb, false-leb}
 use Rattle.calculus.specs.Options.{◌▸◌, test}
 use Rattle.calculus.specs.Expressions.{Expression, constant, unit, bool, leaf, number, variable, location, revision}
 use Rattle.calculus.specs.Expressions.{lambda, one, ref, read, fork, join, two, apply, assign, arithmetic, add}
@@ -89,7 +89,7 @@ value_read s at p h =
     ∙ ap (λ (n : ℕ). leb n 7) (get_or-drop at s 0 0 ∙ ap (λ (i : ℕ). get_or s i 0) (add-zero at))
 
 module _ (s : List ℕ) (at t : ℕ) (ti : t ≡ get_or s at 0) where
-  pub cell_other : 7 < t → Matched read_cell s at None
+  cell_other : 7 < t → Matched read_cell s at None
   cell_other h = record { matches = go (read_closed (length s) (drop at s)) refl }
     where
       go : (o : Maybe (Expression × List ℕ)) → read_closed (length s) (drop at s) ≡ o
@@ -97,7 +97,7 @@ module _ (s : List ℕ) (at t : ℕ) (ti : t ≡ get_or s at 0) where
       go none e = tt
       go (some p) e = rw (value_read s at p e ∙ lt-leb (get_or s at 0) 7 (omega arith)) tt
 
-  pub cell_value : t ≤ 7 → (w : Option ℕ) → w ≡ walk_of (closed_end_of s at) → Matched read_cell s at w
+  cell_value : t ≤ 7 → (w : Option ℕ) → w ≡ walk_of (closed_end_of s at) → Matched read_cell s at w
   cell_value h w q =
       record { matches = go (read_closed (length s) (drop at s)) refl w (closed_matched s at w q).matches }
     where
@@ -107,3 +107,14 @@ module _ (s : List ℕ) (at t : ℕ) (ti : t ≡ get_or s at 0) where
       go none e (Some x) m = absurd m
       go (some p) e None m = absurd m
       go (some p) e (Some x) m = rw (value_read s at p e ∙ le-leb (get_or s at 0) 7 (omega arith)) m
+
+  -- by the tag that the word is
+  pub tag_none : 18 ≤ t → Matched read_cell s at None
+  tag_none h = cell_other (omega arith)
+
+  module _ (v : ℕ) (e : v ≡ t) where
+    pub tag_other : false ≡ leb v 7 → Matched read_cell s at None
+    tag_other h = cell_other (subst (λ n. 7 < n) e (false-leb v 7 h))
+
+    pub tag_value : true ≡ leb v 7 → (w : Option ℕ) → w ≡ walk_of (closed_end_of s at) → Matched read_cell s at w
+    tag_value h = cell_value (subst (λ n. n ≤ 7) e (true-leb v 7 h))

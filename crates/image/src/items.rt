@@ -55,9 +55,6 @@ pub trait Item {
         ensures marked { MarksAt told_words IsValid (taken M.taking (get_or s.now at 0)) s.now (at + 1) (M.marks marks.old) (M.marks marks.new) };
 }
 
-// The largest tag of a closed value.
-const LARGEST_VALUE: u16 = Tag::Lambda as u16;
-
 // An entry of a store, after its key: the value of a location.
 pub struct Entry;
 
@@ -81,7 +78,8 @@ impl Item for Entry {
     }
 
     fn end(s: &[u16], at: usize) -> Option<usize> {
-        if LARGEST_VALUE < word_at(s, at) {
+        let tag = Tag::of(word_at(s, at))?;
+        if !tag.is_value() {
             return None;
         }
         closed_end_of(s, at)
