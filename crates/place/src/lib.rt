@@ -1,7 +1,6 @@
 // The place of work in an expression's words: a loop from the top that keeps only a position.
 #![tactic(auto)]
 
-ghost use Rattle.std.specs.Prelude.{◌≡◌, leb};
 ghost use Rattle.words.specs.Tags.{word_of};
 ghost use Rattle.place.specs.Search.{TagAt, Asks, Decides, RedexBy, Looks, Placed};
 
@@ -15,13 +14,6 @@ fn tag_at(s: &[u16], at: usize) -> Option<Tag>
     Tag::of(*s.get(at)?)
 }
 
-// Is it the tag of a value? Those come first, up to the lambda's.
-fn is_value(tag: Tag) -> bool
-    ensures { result ≡ leb (word_of tag) 7 }
-{
-    tag as u16 <= Tag::Lambda as u16
-}
-
 // May the second child be entered? By the node's tag and its first child's: apply after a value, assign after a
 // location, add, subtract and less after a number.
 #[tactic(auto, using(crate::proofs::Tags::asks_by_lem))]
@@ -29,7 +21,7 @@ fn asks_second(node: Tag, first: Tag) -> bool
     ensures { Asks (word_of node) (word_of first) result }
 {
     match node {
-        Tag::Apply => is_value(first),
+        Tag::Apply => first.is_value(),
         Tag::Assign => first == Tag::Location,
         Tag::Add | Tag::Subtract | Tag::Less => first == Tag::Number,
         _ => false,
@@ -42,11 +34,11 @@ fn is_redex(node: Tag, first: Tag, second: Tag) -> bool
     ensures { RedexBy (word_of node) (word_of first) (word_of second) result }
 {
     match node {
-        Tag::Apply => first == Tag::Lambda && is_value(second),
+        Tag::Apply => first == Tag::Lambda && second.is_value(),
         Tag::If => first == Tag::False || first == Tag::True,
-        Tag::Ref => is_value(first),
+        Tag::Ref => first.is_value(),
         Tag::Read => first == Tag::Location,
-        Tag::Assign => first == Tag::Location && is_value(second),
+        Tag::Assign => first == Tag::Location && second.is_value(),
         Tag::Fork => true,
         Tag::Join => first == Tag::Revision,
         Tag::Add | Tag::Subtract | Tag::Less => first == Tag::Number && second == Tag::Number,
@@ -83,7 +75,7 @@ fn look(s: &[u16], p: usize) -> Move
     let Some(node) = tag_at(s, p) else {
         return Move::IsValue;
     };
-    if is_value(node) {
+    if node.is_value() {
         return Move::IsValue;
     }
     let Some(first) = tag_at(s, p + 1) else {
@@ -95,7 +87,7 @@ fn look(s: &[u16], p: usize) -> Move
     };
     if is_redex(node, first, last) {
         Move::IsRedex
-    } else if is_value(last) {
+    } else if last.is_value() {
         Move::IsStuck
     } else {
         Move::Enter(child)
