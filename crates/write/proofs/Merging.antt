@@ -1,6 +1,6 @@
 -- One turn of an overlay: which entry is next, and what is left of the two stores.
 use Prim.Native.Nat.{ℕ, suc, ◌<◌, ◌≤◌}
-use mathlib.Core.Path.{◌≡◌, sym, ◌∙◌}
+use mathlib.Core.Path.{◌≡◌, sym, ◌∙◌, subst as along}
 use mathlib.Core.Logic.{◌⊎◌, inl, inr}
 use mathlib.Core.List.{List, [], ◌∷◌}
 use native.Mathlib.Omega.{arith}
@@ -140,3 +140,8 @@ module _ (s : List ℕ) (a b : Rest) where
             fewer = omega (arith, p.fewer, f.fewer);
             sees = both_sees;
           }
+
+-- the parts of a turn as one value, which a `match` made
+pub turn_of : {s : List ℕ} {a b c d : Rest} {e : Range ℕ} {t : Range ℕ × Rest × Rest} → t ≡ (e, c, d)
+    → Turns s a b (turn e c d) → Turns s a b (turn t.0 t.1 t.2)
+turn_of {s = s} {a = a} {b = b} q k = along (λ (t : Range ℕ × Rest × Rest). Turns s a b (turn t.0 t.1 t.2)) (sym q) k

@@ -55,32 +55,25 @@ pub fn advance(s: &[u16], first: Rest, second: Rest) -> Turn
     requires { (first.at ≤ length s.now) × (second.at ≤ length s.now) × (0 < first.count + second.count) }
     ensures { Turns s.now first second result }
 {
-    match next_of(s, first, second) {
+    let (entry, first, second) = match next_of(s, first, second) {
         Ordering::Less => {
             let (entry, first) = first.split_first(s);
-            Turn {
-                entry,
-                first,
-                second,
-            }
+            (entry, first, second)
         }
         Ordering::Greater => {
             let (entry, second) = second.split_first(s);
-            Turn {
-                entry,
-                first,
-                second,
-            }
+            (entry, first, second)
         }
         Ordering::Equal => {
             let (entry, second) = second.split_first(s);
             let (_, first) = first.split_first(s);
-            Turn {
-                entry,
-                first,
-                second,
-            }
+            (entry, first, second)
         }
+    };
+    Turn {
+        entry,
+        first,
+        second,
     }
 }
 

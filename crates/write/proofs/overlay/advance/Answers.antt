@@ -1,12 +1,12 @@
 -- `overlay::advance` meets its contract: a law for each entry that may be next.
-use Rattle.write.proofs.Merging.{turn_first, turn_second, turn_both}
+use Rattle.write.proofs.Merging.{turn_of, turn_first, turn_second, turn_both}
 use Rattle.write.proofs.overlay.advance.Goals as goal
+use Rattle.write.proofs.overlay.advance.Goals.{in-Less, in-Greater, in-Equal}
 
-pub returns-in-Less : goal.returns-in-Less
-returns-in-Less c = search (turn_first, c.in-Less.ensures)
-
-pub returns-in-Greater : goal.returns-in-Greater
-returns-in-Greater c = search (turn_second, c.in-Greater.ensures)
-
-pub returns-in-Equal : goal.returns-in-Equal
-returns-in-Equal c = search (turn_both, c.in-Equal.ensures)
+pub returns : goal.returns
+returns c =
+    elim c.match-next_of.branch [
+    | in-Less w ↦ search (turn_of, turn_first, w.in-Less.ensures)
+    | in-Greater w ↦ search (turn_of, turn_second, w.in-Greater.ensures)
+    | in-Equal w ↦ search (turn_of, turn_both, w.in-Equal.ensures)
+    ]
