@@ -4,6 +4,7 @@ use mathlib.Core.Path.{◌≡◌, refl, sym, ap, ◌∙◌, subst as along}
 use mathlib.Core.Bool.{true, false}
 use mathlib.Core.List.{List, [], append-nil}
 use mathlib.Core.Option.{some}
+use Rattle.std.specs.Borrow.{Bor}
 use Rattle.std.specs.Prelude.{Option, Some, None}
 use native.Mathlib.Omega.{arith}
 use lib.ListN.{length}
@@ -31,13 +32,12 @@ use Rattle.write.specs.Cursor.{part}
 use Rattle.write.proofs.Cursors.{part_stands}
 use Rattle.substitute.specs.declared.Filling.{Filling}
 use Rattle.substitute.specs.declared.Piece.{Piece}
-use Rattle.substitute.specs.Substitutes.{all_substituted, Cut, filled, Named, PieceOf, PieceAt}
+use Rattle.substitute.specs.Substitutes.{all_substituted, Cut, Named, PieceOf, PieceAt}
 use Rattle.substitute.proofs.Heads.{head, children, head_long, head_words_lem, children_formed, children_count}
 use Rattle.substitute.proofs.Heads.{head_substituted, first_word, other, lambda_tagged, met}
 
-abbrev piece : ℕ → ℕ → ℕ → ℕ → Piece
-piece from end next n =
-    record { words = record { start = from; end = end }; children = record { at = next; count = n } }
+abbrev piece : Bor (List ℕ) → ℕ → ℕ → Piece
+piece ws next n = record { words = ws; children = record { at = next; count = n } }
 
 -- types that start in the words end in them
 types_high : (s : List ℕ) (n at e : ℕ) → at ≤ length s → types_end s n at ≡ some e → e ≤ length s
@@ -86,40 +86,37 @@ module _ (s : List ℕ) (at : ℕ) (i : Filling) (f : Front) (q : Some f ≡ fro
   front_few = (front_within s ExpressionKind at f q).types
 
   -- the variable
-  pub piece_variable : Named s at 4 i.x true → i.end ≤ length s
-      → (r : Piece) → r ≡ piece i.from i.end f.next 0 → PieceOf s at i r
+  pub piece_variable : Named s at 4 i.x true → (r : Piece) → r ≡ piece i.value f.next 0 → PieceOf s at i r
   unfolding words substituted types_end
-  piece_variable (l, k) high r z =
+  piece_variable (l, k) r z =
       along (PieceOf s at i) (sym z)
       record {
-        high = high;
         cut = λ e v g h p.
             let (m, y) = leaf_tagged variable e (sym (first_word e h) ∙ l) in
-            along (λ (e : Expression). Cut at i.x v e (filled s i) (record { at = f.next; count = 0 })) (sym y)
+            along (λ (e : Expression). Cut at i.x v e (i.value.now) (record { at = f.next; count = 0 })) (sym y)
             (cut m v (along Formed y g) (stands_as (ap words y) h) p);
       }
     where
       cut : (m : ℕ) (v : Expression) → Formed (leaf variable m) → Stands s at (words (leaf variable m))
-          → filled s i ≡ words v → Cut at i.x v (leaf variable m) (filled s i) (record { at = f.next; count = 0 })
+          → i.value.now ≡ words v → Cut at i.x v (leaf variable m) (i.value.now) (record { at = f.next; count = 0 })
       cut m v g h p =
           let own : m ≡ i.x = sym (headed (headed h).more).is ∙ k in
           let ends = some_inj (met s at (leaf variable m) g h).types in
           let to : f.next ≡ at + 2 = (front_of_lem (leaf variable m) g h).1 ∙ ends in
-          whole_cut at i.x v (leaf variable m) (filled s i) f.next (rw (eq-eqb m i.x own) (sym p)) (omega arith)
+          whole_cut at i.x v (leaf variable m) (i.value.now) f.next (rw (eq-eqb m i.x own) (sym p)) (omega arith)
 
   -- a lambda of it
   pub piece_lambda : Named s at 7 i.x true → (end : ℕ) → EndsAt s at end
-      → (r : Piece) → r ≡ piece at end end 0 → PieceOf s at i r
+      → (ws : Bor (List ℕ)) → ws.now ≡ part s at end → (r : Piece) → r ≡ piece ws end 0 → PieceOf s at i r
   unfolding words substituted
-  piece_lambda (l, k) end to r z =
+  piece_lambda (l, k) end to ws d r z =
       along (PieceOf s at i) (sym z)
       record {
-        high = to.high;
         cut = λ e v g h p.
             let (y, A, c, z) = lambda_tagged e (sym (first_word e h) ∙ l) in
             let n : end ≡ at + length (words e) = to.ends e g h in
-            whole_cut at i.x v e (part s at end) end
-            (kept y A c v (stands_as (ap words z) h) e z ∙ sym (part_stands end h n)) n;
+            whole_cut at i.x v e ws.now end
+            (kept y A c v (stands_as (ap words z) h) e z ∙ sym (d ∙ part_stands end h n)) n;
       }
     where
       kept : (y : ℕ) (A : ScriptType) (c v : Expression) → Stands s at (words (lambda y A c)) → (e : Expression)
@@ -139,12 +136,16 @@ module _ (s : List ℕ) (at : ℕ) (i : Filling) (f : Front) (q : Some f ≡ fro
 
   -- any other node, of another own word or of another tag
   module _ (body : ℕ) (k : Some body ≡ walk_of (types_end s f.row.types f.next)) where
-    pub piece_other : Named s at 4 i.x false → Named s at 7 i.x false
-        → PieceOf s at i (piece at body body f.row.children)
-    piece_other no-variable no-lambda =
-        let at_body = walk_ends (types_end s f.row.types f.next) body k in
+    at_body : types_end s f.row.types f.next ≡ some body
+    at_body = walk_ends (types_end s f.row.types f.next) body k
+
+    pub body_high : body ≤ length s
+    body_high = types_high s f.row.types f.next body (front_within s ExpressionKind at f q).high at_body
+
+    pub piece_other : Named s at 4 i.x false → Named s at 7 i.x false → (ws : Bor (List ℕ))
+        → ws.now ≡ part s at body → PieceOf s at i (piece ws body f.row.children)
+    piece_other no-variable no-lambda ws d =
         record {
-          high = types_high s f.row.types f.next body (front_within s ExpressionKind at f q).high at_body;
           cut = λ e v g h p.
               let here : body ≡ at + length (head e) = some_inj (sym at_body ∙ types_of e g h) in
               let first = stands_left (head e) (all_words (children e)) (stands_as (head_words_lem e) h) in
@@ -153,7 +154,7 @@ module _ (s : List ℕ) (at : ℕ) (i : Filling) (f : Front) (q : Some f ≡ fro
                 inner = children e;
                 whole = head_words_lem e;
                 result =
-                    rw (part_stands body first here)
+                    rw (d ∙ part_stands body first here)
                     (head_substituted i.x v e (other s at i.x e h no-variable no-lambda));
                 some = head_long e;
                 next = here;

@@ -4,6 +4,7 @@ use mathlib.Core.Path.{◌≡◌, refl, sym, ap, ◌∙◌}
 use mathlib.Core.List.{List, [], ◌∷◌, ◌++◌, append_assoc, append-nil}
 use native.Mathlib.Omega.{arith}
 use lib.ListN.{length, length-append, length-drop}
+use Rattle.std.specs.Borrow.{Bor}
 use Rattle.calculus.specs.Expressions.{Expression}
 use Rattle.calculus.specs.Words.{words}
 use Rattle.calculus.specs.Formed.{Formed}
@@ -12,13 +13,13 @@ use Rattle.words.specs.Names.{all_words, AllFormed}
 use Rattle.words.proofs.Ends.{words_long}
 use Rattle.image.specs.Standing.{Stands}
 use Rattle.image.proofs.Standing.{stands_left, stands_right, stands_at, stands_as}
-use Rattle.write.specs.Cursor.{Wrote}
+use Rattle.write.specs.Cursor.{part, Wrote}
 use Rattle.write.proofs.Cursors.{wrote_nil, wrote_as, then}
 use Rattle.substitute.specs.declared.Filling.{Filling}
 use Rattle.substitute.specs.declared.Children.{Children}
 use Rattle.substitute.specs.declared.Opened.{Opened}
 use Rattle.substitute.specs.declared.Reached.{Reached}
-use Rattle.substitute.specs.Substitutes.{all_substituted, filled, WritesNode}
+use Rattle.substitute.specs.Substitutes.{all_substituted, WritesNode}
 use Rattle.substitute.specs.Substitutes.{AllReplaced, Replaces, Substitutes}
 
 -- a node that was written, and then the expressions inside it: the whole expression
@@ -28,7 +29,7 @@ record OneReplaced (at x : ℕ) (v e : Expression) (o : List ℕ) (to : ℕ) (r 
 
 one_replaced : (s : List ℕ) (at : ℕ) (f : Filling) (o : List ℕ) (to left : ℕ) (q : Opened) (o₁ : List ℕ) (r : Reached)
     (o₂ : List ℕ) → WritesNode s at f o to q o₁ → Replaces s q.children f o₁ q.to left r o₂
-    → (e v : Expression) → Formed e → Stands s at (words e) → length (words e) ≤ left + 1 → filled s f ≡ words v
+    → (e v : Expression) → Formed e → Stands s at (words e) → length (words e) ≤ left + 1 → f.value.now ≡ words v
     → OneReplaced at f.x v e o to r o₂
 one_replaced s at f o to left q o₁ r o₂ n all e v g h l i =
     let w = n.node e v g h i in
@@ -58,7 +59,7 @@ pub record Turning (s : List ℕ) (n : Children) (f : Filling) (o : List ℕ) (t
   pub high : r.to ≤ length o + 1
   pub same : length o' ≡ length o
   pub sees : (es : List Expression) (v : Expression) → AllFormed es → Stands s n.at (all_words es) → length es ≡ n.count
-      → length (all_words es) ≤ left → filled s f ≡ words v
+      → length (all_words es) ≤ left → f.value.now ≡ words v
       → (others : List Expression) × Rest n.at f.x v es o to r o' done others
 
 module _ (s : List ℕ) (n : Children) (f : Filling) (o : List ℕ) (to left : ℕ) (r : Reached) (o' : List ℕ) (done : ℕ)
@@ -100,7 +101,7 @@ module _ (s : List ℕ) (n : Children) (f : Filling) (o : List ℕ) (to left : �
       }
     where
       more : (es : List Expression) (v : Expression) → Stands s n.at (all_words es) → length es ≡ n.count
-          → length (all_words es) ≤ left → filled s f ≡ words v → (others : List Expression)
+          → length (all_words es) ≤ left → f.value.now ≡ words v → (others : List Expression)
           → Rest n.at f.x v es o to r o' done others
           → (others : List Expression) × Rest n.at f.x v es o to r₁ o₂ (done + 1) others
       more es v st c l i [] k = absurd (omega (arith, k.count))
@@ -142,12 +143,13 @@ none_left s n f o to left z h =
     none (e ∷ es) v l = absurd (omega (arith, words_long e, length-append (words e) (all_words es)))
 
 -- the whole: an expression is not longer than the words in which it stands
-pub substitutes : (s : List ℕ) (at x a b : ℕ) (o : List ℕ) (to : ℕ) (q : Opened) (o₁ : List ℕ) (r : Reached)
-    (o₂ : List ℕ) → WritesNode s at (record { x = x; from = a; end = b }) o to q o₁
-    → Replaces s q.children (record { x = x; from = a; end = b }) o₁ q.to (length s) r o₂
+pub substitutes : (s : List ℕ) (at x a b : ℕ) (value : Bor (List ℕ)) → value.now ≡ part s a b → (o : List ℕ) (to : ℕ)
+    (q : Opened) (o₁ : List ℕ) (r : Reached) (o₂ : List ℕ)
+    → WritesNode s at (record { x = x; value = value }) o to q o₁
+    → Replaces s q.children (record { x = x; value = value }) o₁ q.to (length s) r o₂
     → Substitutes s at x a b o to r.to o₂
-substitutes s at x a b o to q o₁ r o₂ node all =
-    let f : Filling = record { x = x; from = a; end = b } in
+substitutes s at x a b value same o to q o₁ r o₂ node all =
+    let f : Filling = record { x = x; value = value } in
     let h₁ = node.same in
     let h₂ = all.high in
     record {
@@ -155,5 +157,5 @@ substitutes s at x a b o to q o₁ r o₂ node all =
       same = all.same ∙ node.same;
       wrote = λ e v g h i.
           let size = sym (length-drop at s) ∙ ap length h.eq ∙ length-append (words e) h.rest in
-          (one_replaced s at f o to (length s) q o₁ r o₂ node all e v g h (omega arith) i).wrote;
+          (one_replaced s at f o to (length s) q o₁ r o₂ node all e v g h (omega arith) (same ∙ i)).wrote;
     }

@@ -30,19 +30,14 @@ pub record Cut (at x : ℕ) (v e : Expression) (written : List ℕ) (r : Childre
   pub count : length inner ≡ r.count
   pub formed : AllFormed inner
 
--- the value's words
-abbrev pub filled : List ℕ → Filling → List ℕ
-filled s f = part s f.from f.end
-
 -- does a node of tag t whose own word is x stand at `at`?
 abbrev pub Named : List ℕ → ℕ → ℕ → ℕ → Bool → Type 0
 Named s at t x true = (get_or s at 0 ≡ t) × (get_or s (at + 1) 0 ≡ x)
 Named s at t x false = get_or s at 0 ≡ t → get_or s (at + 1) 0 ≡ x → ⊥
 
 pub record PieceOf (s : List ℕ) (at : ℕ) (f : Filling) (r : Piece) : Type 0 where
-  pub high : r.words.end ≤ length s
-  pub cut : (e v : Expression) → Formed e → Stands s at (words e) → filled s f ≡ words v
-      → Cut at f.x v e (part s r.words.start r.words.end) r.children
+  pub cut : (e v : Expression) → Formed e → Stands s at (words e) → f.value.now ≡ words v
+      → Cut at f.x v e r.words.now r.children
 
 -- there is a piece, unless no well-formed expression stands at `at`
 abbrev pub PieceAt : List ℕ → ℕ → Filling → Option Piece → Type 0
@@ -57,7 +52,7 @@ pub record NodeWritten (at x : ℕ) (v e : Expression) (o : List ℕ) (to : ℕ)
 pub record WritesNode (s : List ℕ) (at : ℕ) (f : Filling) (o : List ℕ) (to : ℕ) (r : Opened) (o' : List ℕ) : Type 0 where
   pub high : r.to ≤ length o + 1
   pub same : length o' ≡ length o
-  pub node : (e v : Expression) → Formed e → Stands s at (words e) → filled s f ≡ words v
+  pub node : (e v : Expression) → Formed e → Stands s at (words e) → f.value.now ≡ words v
       → NodeWritten at f.x v e o to r o'
 
 -- the expressions were read and written
@@ -71,7 +66,7 @@ pub record Replaces (s : List ℕ) (n : Children) (f : Filling) (o : List ℕ) (
   pub high : r.to ≤ length o + 1
   pub same : length o' ≡ length o
   pub all : (es : List Expression) (v : Expression) → AllFormed es → Stands s n.at (all_words es) → length es ≡ n.count
-      → length (all_words es) ≤ left → filled s f ≡ words v → AllReplaced n.at f.x v es o to r o'
+      → length (all_words es) ≤ left → f.value.now ≡ words v → AllReplaced n.at f.x v es o to r o'
 
 pub record Substitutes (s : List ℕ) (at x a b : ℕ) (o : List ℕ) (to r : ℕ) (o' : List ℕ) : Type 0 where
   pub high : r ≤ length o + 1

@@ -11,15 +11,13 @@ use words::reading::word_at;
 use words::table::Kind;
 use words::tags::Tag;
 use words::walk::{front_at, types_end};
-use write::cursor::copy_part;
+use write::cursor::{part_of, put_words};
 
-// What goes in: for each free variable x, the words of the value, which stand in the same words from `from` to `end`:
-// two numbers, since a Range is not Copy and would be cloned for each piece.
+// What goes in: for each free variable x, the words of the value.
 #[derive(Clone, Copy, PartialEq, Eq, Debug)]
-pub struct Filling {
+pub struct Filling<'a> {
     pub x: u16,
-    pub from: usize,
-    pub end: usize,
+    pub value: &'a [u16],
 }
 
 // So many expressions that stand one after the other from `at` on. Not write::overlay::Rest: what stands there are a
@@ -31,16 +29,16 @@ pub struct Children {
 }
 
 // What is written for a node: words, and then its children.
-#[derive(Drop, PartialEq, Eq, Debug)]
-pub struct Piece {
-    pub words: Range<usize>,
+#[derive(Clone, Copy, PartialEq, Eq, Debug)]
+pub struct Piece<'a> {
+    pub words: &'a [u16],
     pub children: Children,
 }
 
-impl Piece {
+impl<'a> Piece<'a> {
     // No children: the reading goes on at `next`.
-    fn bare(words: Range<usize>, next: usize) -> Piece
-        ensures { result ≡ record { words = words; children = record { at = next; count = 0 } } }
+    fn bare(words: &'a [u16], next: usize) -> Piece<'a>
+        ensures { result ≡ record { words = words.entry; children = record { at = next; count = 0 } } }
     {
         Piece {
             words,
@@ -59,21 +57,20 @@ fn is_named(s: &[u16], at: usize, tag: Tag, x: u16) -> bool
 
 // The piece of the node at `at`: for the variable the value, a lambda of it as it stands, and of any other node its
 // tag, own word and type, and then its children.
-fn piece_at(s: &[u16], at: usize, filling: &Filling) -> Option<Piece>
-    requires { filling.now.end ≤ length s.now }
+fn piece_at<'a>(s: &'a [u16], at: usize, filling: &Filling<'a>) -> Option<Piece<'a>>
     ensures { PieceAt s.now at filling.now result }
 {
     let front = front_at(s, Kind::Expression, at)?;
     if is_named(s, at, Tag::Variable, filling.x) {
-        return Some(Piece::bare(filling.from..filling.end, front.next));
+        return Some(Piece::bare(filling.value, front.next));
     }
     if is_named(s, at, Tag::Lambda, filling.x) {
         let end = past(s, at);
-        return Some(Piece::bare(at..end, end));
+        return Some(Piece::bare(part_of(s, at..end), end));
     }
     let body = types_end(s, front.row.types, front.next)?;
     Some(Piece {
-        words: at..body,
+        words: part_of(s, at..body),
         children: Children {
             at: body,
             count: front.row.children,
@@ -98,12 +95,11 @@ pub struct Opened {
 // Writes the piece of the node where the reading is; where none stands it is empty, and the reading is over. Two
 // functions call it, so that its stack stays out of the recursion.
 fn write_node(s: &[u16], at: Reached, filling: &Filling, out: &mut [u16]) -> Opened
-    requires { filling.now.end ≤ length s.now }
     ensures { WritesNode s.now at.read filling.now out.old at.to result out.new }
 {
-    let piece = piece_at(s, at.read, filling).unwrap_or(Piece::bare(0..0, s.len()));
+    let piece = piece_at(s, at.read, filling).unwrap_or(Piece::bare(&[], s.len()));
     let children = piece.children;
-    let to = copy_part(s, piece.words, out, at.to);
+    let to = put_words(out, at.to, piece.words);
     Opened { children, to }
 }
 
@@ -111,7 +107,7 @@ fn write_node(s: &[u16], at: Reached, filling: &Filling, out: &mut [u16]) -> Ope
 // at least the count of the words that remain, and falls with each call: it bounds the calls on any words, and Replaces
 // (specs) says by it what was written. The node and what goes in are lent, which keeps a call's stack small.
 fn replace(s: &[u16], node: &Opened, filling: &Filling, out: &mut [u16], left: usize) -> Reached
-    requires { (filling.now.end ≤ length s.now) × (node.now.to ≤ length out.old + 1) }
+    requires { node.now.to ≤ length out.old + 1 }
     ensures { Replaces s.now node.now.children filling.now out.old node.now.to left result out.new }
 {
     let mut at = Reached {
@@ -143,8 +139,7 @@ pub fn substitute(
 {
     let filling = &Filling {
         x,
-        from: value.start,
-        end: value.end,
+        value: part_of(s, value),
     };
     let node = write_node(s, Reached { read: at, to }, filling, out);
     replace(s, &node, filling, out, s.len()).to

@@ -1,5 +1,5 @@
 // A cursor that may run past the end of the buffer: stores there do nothing, and the cursor stays one past the end.
-ghost use Rattle.std.specs.Prelude.{◌≤◌, [], ◌∷◌, length};
+ghost use Rattle.std.specs.Prelude.{◌≡◌, ◌≤◌, [], ◌∷◌, length};
 ghost use Rattle.write.specs.Cursor.{Wrote, part};
 
 use std::ops::Range;
@@ -28,10 +28,18 @@ pub fn put_words(out: &mut [u16], to: usize, words: &[u16]) -> usize
     to + words.len()
 }
 
+// The words of s in the range: none where it ends before it starts.
+pub fn part_of(s: &[u16], range: Range<usize>) -> &[u16]
+    requires { range.end ≤ length s.now }
+    ensures { result.now ≡ part s.now range.start range.end }
+{
+    s.get(range).unwrap_or(&[])
+}
+
 // Writes the words of s in the range at the cursor.
 pub fn copy_part(s: &[u16], range: Range<usize>, out: &mut [u16], to: usize) -> usize
     requires { range.end ≤ length s.now }
     ensures { Wrote (part s.now range.start range.end) out.old to result out.new }
 {
-    put_words(out, to, s.get(range).unwrap_or(&[]))
+    put_words(out, to, part_of(s, range))
 }

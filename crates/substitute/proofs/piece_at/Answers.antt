@@ -1,6 +1,6 @@
 -- `piece_at` meets its contract: one law for each way through it.
 use Rattle.substitute.proofs.Pieces.{front_inside, front_few, piece_wrong, piece_variable, piece_lambda}
-use Rattle.substitute.proofs.Pieces.{piece_broken, piece_other}
+use Rattle.substitute.proofs.Pieces.{piece_broken, piece_other, body_high}
 use Rattle.substitute.proofs.piece_at.Goals as goal
 
 pub returns : goal.returns
@@ -27,3 +27,6 @@ types_end-requires c = search (front_few, c.in_ok-front.ensures)
 
 pub returns-in_err-body : goal.returns-in_err-body
 returns-in_err-body c = search (piece_broken, c.in_ok-front.ensures, c.in_err-body.ensures)
+
+pub part_of-requires-2 : goal.part_of-requires-2
+part_of-requires-2 c = search (body_high, c.in_ok-front.ensures, c.in_ok-body.ensures)
