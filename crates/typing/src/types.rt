@@ -146,10 +146,7 @@ impl<'a> Held<'a> {
         let mut p = p;
         let mut q = q;
         for done in 0..4096usize {
-            let Some(a) = self.head(p) else {
-                return false;
-            };
-            let Some(b) = self.head(q) else {
+            let (Some(a), Some(b)) = (self.head(p), self.head(q)) else {
                 return false;
             };
             if !self.same_heads(a, b) {

@@ -4,10 +4,10 @@ use Rattle.typing.proofs.Equality.{same_nowhere, nowhere_same, same_unlike, same
 use Rattle.typing.proofs.types.Held.same.Goals as goal
 
 pub returns-in_default : goal.returns-in_default
-returns-in_default c = search same_nowhere
+returns-in_default c = search nowhere_same
 
-pub returns-in_default-head : goal.returns-in_default-head
-returns-in_default-head c = search nowhere_same
+pub returns-in_default-2 : goal.returns-in_default-2
+returns-in_default-2 c = search same_nowhere
 
 pub returns-then-not-same_heads : goal.returns-then-not-same_heads
 returns-then-not-same_heads c = search same_unlike
@@ -19,7 +19,7 @@ pub returns-in_default-rest-2 : goal.returns-in_default-rest-2
 returns-in_default-rest-2 c = search (rules, done_same, c.in_default-rest-2.ensures)
 
 pub loop-done-preserved : goal.loop-done-preserved
-loop-done-preserved c = search (rules, same_turn, c.in-Some-rest.ensures, c.in-Some-rest-2.ensures)
+loop-done-preserved c = search (rules, same_turn, c.in-Some.ensures, c.in-Some-rest.ensures)
 
 pub returns : goal.returns
 returns c = search same_none
