@@ -1,5 +1,5 @@
 -- The C functions' answers: the paper's numbers and lengths, and what every lent buffer holds after.
-use Rattle.std.specs.Prelude.{ℕ, ◌+◌, ◌*◌, ◌≡◌, Bool, List, [], ◌∷◌, length}
+use Rattle.std.specs.Prelude.{ℕ, ◌+◌, ◌*◌, ◌≡◌, Bool, List, [], ◌∷◌, length, Result, Ok, Err}
 use Rattle.calculus.specs.Numbers.{choose}
 use Rattle.calculus.specs.Answers.{Answer, out_after, work_after, Report}
 use Rattle.calculus.specs.Answers.{Ran as Run}
@@ -9,6 +9,11 @@ use Rattle.host.specs.declared.PulleyrushReport.{PulleyrushReport}
 pub record Numbered (number size : ℕ) (r : PulleyrushAnswer) : Type 0 where
   pub told : r.number ≡ number
   pub measured : r.length ≡ size
+
+-- the number 0 with the length, or the number of the refusal with none
+abbrev pub Told : {E : Type 0} → (E → ℕ) → Result ℕ E → PulleyrushAnswer → Type 0
+Told number_is (Ok n) r = Numbered 0 n r
+Told number_is (Err e) r = Numbered (number_is e) 0 r
 
 pub record Answers (a : Answer) (r : PulleyrushAnswer) (out work out' work' : List ℕ) : Type 0 where
   pub answered : Numbered a.number (length a.written) r

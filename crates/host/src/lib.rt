@@ -2,12 +2,12 @@
 // The crate host_c exports each of these functions under its own name.
 #![tactic(auto)]
 
-ghost use Rattle.std.specs.Prelude.{◌≡◌, ◌+◌, ◌≤◌, length, drop};
+ghost use Rattle.std.specs.Prelude.{ℕ, Err, ◌≡◌, ◌+◌, ◌≤◌, length, drop};
 ghost use Rattle.calculus.specs.Answers.{check_answer, load_answer, step_answer, report_answer, run_answer};
-ghost use Rattle.engine.specs.Answers.{stepped_number, stepped_length, loaded_number, loaded_length, ran_number, ran_length};
+ghost use Rattle.engine.specs.Answers.{stepped_number, stepped_length, loaded_number, ran_number};
 ghost use Rattle.image.specs.Reports.{report_of};
-ghost use Rattle.typing.specs.Checks.{number_of, length_of};
-ghost use Rattle.host.specs.Host.{Numbered, Answers, RunAnswers, Reports, bits};
+ghost use Rattle.typing.specs.Checks.{error_number};
+ghost use Rattle.host.specs.Host.{Numbered, Told, Answers, RunAnswers, Reports, bits};
 
 use engine::answers;
 use engine::answers::{LoadError, RunError, StepError, Stepped};
@@ -43,44 +43,55 @@ impl From<Result<Stepped, StepError>> for PulleyrushAnswer {
     }
 }
 
-impl From<Result<usize, LoadError>> for PulleyrushAnswer {
-    ghost from_gives = { λ answer told. Numbered (loaded_number answer) (loaded_length answer) told };
+// Why a length is not given, as a number of the paper.
+pub trait HasNumber {
+    ghost number_is: { Self → ℕ };
 
-    fn from(answer: Result<usize, LoadError>) -> PulleyrushAnswer {
-        PulleyrushAnswer {
-            number: answers::loaded_number(answer) as u32,
-            length: answer.unwrap_or(0),
+    fn number(self) -> u16
+        ensures { result ≡ number_is self };
+}
+
+impl HasNumber for LoadError {
+    ghost number_is = { λ error. loaded_number (Err error) };
+
+    fn number(self) -> u16 {
+        self as u16
+    }
+}
+
+impl HasNumber for RunError {
+    ghost number_is = { λ error. ran_number (Err error) };
+
+    fn number(self) -> u16 {
+        self as u16
+    }
+}
+
+impl HasNumber for CheckError {
+    ghost number_is = { error_number };
+
+    fn number(self) -> u16 {
+        match self {
+            CheckError::NoRoom => 9,
+            CheckError::NotFormed => 10,
+            CheckError::HoldsHandle => 11,
+            CheckError::NotClosed => 12,
+            CheckError::NoType => 13,
+            CheckError::LongType => 14,
         }
     }
 }
 
-impl From<Result<usize, RunError>> for PulleyrushAnswer {
-    ghost from_gives = { λ answer told. Numbered (ran_number answer) (ran_length answer) told };
+impl<E: HasNumber> From<Result<usize, E>> for PulleyrushAnswer {
+    ghost from_gives = { λ answer told. Told E.number_is answer told };
 
-    fn from(answer: Result<usize, RunError>) -> PulleyrushAnswer {
-        PulleyrushAnswer {
-            number: answers::ran_number(answer) as u32,
-            length: answer.unwrap_or(0),
-        }
-    }
-}
-
-impl From<Result<usize, CheckError>> for PulleyrushAnswer {
-    ghost from_gives = { λ answer told. Numbered (number_of answer) (length_of answer) told };
-
-    fn from(answer: Result<usize, CheckError>) -> PulleyrushAnswer {
-        let number = match answer {
-            Ok(_) => 0,
-            Err(CheckError::NoRoom) => 9,
-            Err(CheckError::NotFormed) => 10,
-            Err(CheckError::HoldsHandle) => 11,
-            Err(CheckError::NotClosed) => 12,
-            Err(CheckError::NoType) => 13,
-            Err(CheckError::LongType) => 14,
-        };
-        PulleyrushAnswer {
-            number,
-            length: answer.unwrap_or(0),
+    fn from(answer: Result<usize, E>) -> PulleyrushAnswer {
+        match answer {
+            Ok(length) => PulleyrushAnswer { number: 0, length },
+            Err(error) => PulleyrushAnswer {
+                number: error.number() as u32,
+                length: 0,
+            },
         }
     }
 }
