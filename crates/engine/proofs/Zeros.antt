@@ -1,14 +1,12 @@
--- Buffers that are cleared from a place on, and filled with a result and then zeros.
+-- Buffers that are cleared from a place on, and words copied to the front of a buffer.
 use Prim.Native.Nat.{ℕ, ◌+◌, ◌-◌, ◌≤◌}
-use mathlib.Core.Path.{◌≡◌, refl, sym, ap, ◌∙◌}
+use mathlib.Core.Path.{◌≡◌, refl, ap, ◌∙◌}
 use mathlib.Core.List.{List, ◌++◌}
 use native.Mathlib.Omega.{arith}
 use lib.ListN.{length, take, drop, replicate, length-replicate, length-append, length-drop}
 use lib.Seq.{sets-eq, length-take-le, take_at, drop_at}
-use Rattle.std.proofs.Math.Seq.{take-length}
 use Rattle.write.specs.Cursor.{Wrote}
 use Rattle.words.specs.Buffers.{Cleared}
-use Rattle.engine.specs.Buffers.{Filled}
 
 -- a whole buffer cleared
 pub cleared_all : {o o' : List ℕ} → Cleared o 0 o' → o' ≡ replicate (length o) 0
@@ -43,16 +41,4 @@ fronted s n o ys h k e =
     record {
       front = take_at ys (drop n o) n l ∙ e;
       size = length-append ys (drop n o) ∙ omega (arith, length-drop n o);
-    }
-
--- and what is after them cleared
-pub filled : (words o ys o' : List ℕ) → length words ≤ length o → ys ≡ words
-    → Cleared (ys ++ drop (length words) o) (length words) o' → Filled words o o'
-filled words o ys o' h e c =
-    let n = length words in
-    let f = fronted words n o ys (omega arith) h (e ∙ sym (take-length words)) in
-    record {
-      holds = c.zeros
-          ∙ ap (λ (l : List ℕ). l ++ replicate (length (ys ++ drop n o) - n) 0) (f.front ∙ take-length words)
-          ∙ ap (λ k. words ++ replicate (k - n) 0) f.size;
     }

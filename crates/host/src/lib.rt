@@ -55,7 +55,7 @@ impl HasNumber for LoadError {
     ghost number_is = { λ error. loaded_number (Err error) };
 
     fn number(self) -> u16 {
-        self as u16
+        answers::loaded_number(Err(self))
     }
 }
 
@@ -63,13 +63,14 @@ impl HasNumber for RunError {
     ghost number_is = { λ error. ran_number (Err error) };
 
     fn number(self) -> u16 {
-        self as u16
+        answers::ran_number(Err(self))
     }
 }
 
 impl HasNumber for CheckError {
     ghost number_is = { error_number };
 
+    // The numbers of a check's refusals, as C gets them (host/pulleyrush.h).
     fn number(self) -> u16 {
         match self {
             CheckError::NoRoom => 9,
