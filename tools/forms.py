@@ -68,7 +68,7 @@ def many():
     kind = "5b functions of six or more parameters"
     FOUND[kind] = []
     for path, text in CODE:
-        for m in re.finditer(r"fn (\w+)(?:<[^>]*>)?\(([^)]*)\)", text, re.S):
+        for m in re.finditer(r"fn (\w+)(?:<(?:->|[^>])*>)?\(([^)]*)\)", text, re.S):
             if len([p for p in m.group(2).split(",") if ":" in p or "self" in p]) >= 6:
                 found(kind, path, m.start(), text, f"fn {m.group(1)}")
 

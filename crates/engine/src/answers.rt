@@ -94,7 +94,8 @@ pub fn loaded_number(answer: Result<usize, LoadError>) -> u16
     }
 }
 
-// The numbers of a run's answers, as C gets them (host/pulleyrush.h).
+// The numbers of a run's answers, as C gets them (host/pulleyrush.h). Beside loaded_number: a cast by `as` is not generic,
+// and each refusal is an enum of its own.
 pub fn ran_number(answer: Result<usize, RunError>) -> u16
     ensures { result ≡ answers.ran_number answer }
 {

@@ -28,7 +28,7 @@ fn pick(state: &mut [u16], n: usize, r: u16, work: &mut [u16]) -> Result<Stepped
     }
 }
 
-// Every pick in turn: the length of the last image. The answers are put by their index: of a slice that is walked with
+// Every pick in turn: the length of the last image. It stands beside the buffer, as C lends it. The answers are put by their index: of a slice that is walked with
 // iter_mut a proof knows the length and no element.
 fn try_all(
     state: &mut [u16],
@@ -50,7 +50,7 @@ fn try_all(
     n
 }
 
-// Tries every pick in turn on the image in the first words of the state buffer.
+// Tries every pick in turn on the image in the first words of the state buffer, whose length C lends beside it.
 pub fn run(
     state: &mut [u16],
     length: usize,

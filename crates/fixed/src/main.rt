@@ -50,7 +50,7 @@ impl Kind {
     }
 }
 
-// Load's number.
+// Load's number, by hand: the enum that has the numbers, LoadError, is engine's, and this program stands on words.
 fn load_number(script: &[u16]) -> u16 {
     match check_script(script) {
         Ok(()) => 0,

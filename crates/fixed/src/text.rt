@@ -5,6 +5,7 @@ ghost use Rattle.std.specs.Iterator.{at_most};
 use std::slice::Iter;
 
 // The words of the bytes that are still to be read.
+// Drop alone: it is an iterator at work, and no plain data to copy or compare.
 #[derive(Drop)]
 pub struct Words<'a> {
     pub bytes: Iter<'a, u8>,

@@ -23,7 +23,8 @@ pub struct PulleyrushAnswer {
     pub length: usize,
 }
 
-// A report: its number, how many revision numbers are in use, and for each of them the bit of that number.
+// A report: its number, how many revision numbers are in use, and for each of them the bit of that number; no enum, since
+// C holds it.
 #[repr(C)]
 #[derive(Clone, Copy, PartialEq, Eq, Debug)]
 pub struct PulleyrushReport {
@@ -123,6 +124,7 @@ pub fn pulleyrush_step(
     engine::step::step(image, revision, out, work).into()
 }
 
+// The state's length stands beside its buffer: C lends all 8,192 words, of which the first are the image.
 pub fn pulleyrush_run(
     state: &mut [u16],
     length: usize,

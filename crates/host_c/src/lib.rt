@@ -1,4 +1,5 @@
 // The functions that C calls: each is that of the crate host, under the same name and with the same promise.
+// Twins of host's all the same: only a static library exports names, and no crate can stand on one.
 #![tactic(auto)]
 
 ghost use Rattle.std.specs.Prelude.{length};

@@ -55,7 +55,7 @@ pub trait Item {
         ensures marked { MarksAt told_words IsValid (taken M.taking (get_or s.now at 0)) s.now (at + 1) (M.marks marks.old) (M.marks marks.new) };
 }
 
-// An entry of a store, after its key: the value of a location.
+// An entry of a store, after its key: the value of a location. No derives: no value of it is made, it names the kind.
 pub struct Entry;
 
 impl Item for Entry {
@@ -92,7 +92,7 @@ impl Item for Entry {
     }
 }
 
-// A section of a state, after its key: the stores and the expression of a revision.
+// A section of a state, after its key: the stores and the expression of a revision. No derives, as Entry.
 pub struct Section;
 
 impl Item for Section {

@@ -7,7 +7,8 @@ ghost use Rattle.image.specs.Matches.{Matched, list_of, map_of};
 use crate::items::{Item, Section};
 
 // Where n items that start at `at` end, if their keys rise and none is over the largest.
-// A walk of its own: it alone tests keys and items, and stops at the first that is not valid.
+// A walk of its own: it alone tests keys and items, and stops at the first that is not valid. Places are numbers beside
+// the words: see image::parts.
 fn items_end<I: Item>(s: &[u16], at: usize, n: usize) -> Option<usize>
     requires { at ≤ length s.now }
     ensures { Matched (list_of I.read I.LARGEST n) s.now at result }

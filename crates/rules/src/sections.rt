@@ -14,7 +14,7 @@ pub fn find_section(s: &[u16], q: u16) -> Result<usize, usize>
     seek_section(s, 1, word_at(s, 0) as usize, q)
 }
 
-// The entries of the store whose count stands at `at`.
+// The entries of the store whose count stands at `at`, a number beside the words: see image::parts.
 fn entries_at(s: &[u16], at: usize) -> Rest
     requires { at < length s.now }
     ensures { result ≡ record { at = at + 1; count = get_or s.now at 0 } }

@@ -1,7 +1,8 @@
 // Where a revision works, and what comes of a step there.
 
 // Of revision `revision`: where its snapshot's count, its local store's count and its expression start, and its redex.
-// The words are passed beside it: with them in one struct a clause would say work.entry.image.now, and not s.now.
+// The words are passed beside it: a Site is Copy and plain numbers, and every rule hands the words on alone, to image,
+// place and write.
 // Working (specs/Work.antt) is asked for by each rule and is no invariant: each asks for another tag, in those words.
 #[derive(Clone, Copy, PartialEq, Eq, Debug)]
 pub struct Site {

@@ -6,7 +6,8 @@ use std::ops::Range;
 use write::cursor::copy_part;
 
 // Writes the words of s in the range `part`, with what `write` writes in place of those in the range `hole`, if the
-// hole starts among them.
+// hole starts among them. Six parameters: for out and to see write::cursor::put_word; each caller has a part and a hole
+// of its own.
 pub fn splice<W: FnOnce(&mut [u16], usize) -> usize>(
     s: &[u16],
     part: Range<usize>,

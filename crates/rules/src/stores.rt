@@ -15,7 +15,8 @@ use write::cursor::{copy_part, put_words};
 use write::entry::put_entry;
 
 // The image with the words of s in the range `value` as the cell of location l in the local store, and the words
-// `new` for the redex, which ends with the value.
+// `new` for the redex, which ends with the value. Six parameters: a struct of l, value and new would be made at its two
+// calls alone.
 fn store(s: &[u16], site: Site, l: u16, value: Range<usize>, new: &[u16], out: &mut [u16]) -> usize
     requires { PutPlace s.now site value.end }
     ensures { WroteStored s.now site l value.start value.end new.now out.old result out.new }

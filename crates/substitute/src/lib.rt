@@ -47,7 +47,7 @@ impl<'a> Piece<'a> {
     }
 }
 
-// Is it a node of that tag whose own word is x?
+// Is it a node of that tag whose own word is x? The place is a number beside the words: see image::parts.
 fn is_named(s: &[u16], at: usize, tag: Tag, x: u16) -> bool
     requires { at < length s.now }
     ensures { Named s.now at (word_of tag) x result }

@@ -39,7 +39,7 @@ impl InUse {
     }
 
     // One more mark; a number past the marks is none.
-    // No crate here calls it: a public function, which marks one number as with_names those of words.
+    // No crate here calls it: it stays since it is a public function with a promise, Marked.
     pub fn with(self, number: u16) -> InUse
         ensures { Marked self number result }
     {

@@ -17,7 +17,7 @@ pub fn less(a: u16, b: u16) -> bool
     signed(a) < signed(b)
 }
 
-// The sum, wrapped to a word.
+// The sum, wrapped to a word. It and subtract stay two: public functions, each with a clause of its own.
 pub fn add(a: u16, b: u16) -> u16
     ensures { result ≡ (a + b) % 65536 }
 {

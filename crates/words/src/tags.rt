@@ -26,7 +26,8 @@ pub enum Tag {
 }
 
 impl Tag {
-    // The tag that the word is. An Option and no TryFrom: an error could only say that the word is none.
+    // The tag that the word is. An Option and no TryFrom: an error could only say that the word is none. The numbers
+    // stand here alone: words are u16 in buffers that C lends, and no cast makes an enum of one.
     pub fn of(word: u16) -> Option<Tag>
         ensures { TagTold word result }
     {

@@ -8,7 +8,8 @@ use std::cmp::Ordering;
 use std::ops::Range;
 use words::reading::word_at;
 
-// What is left of a store: so many entries, the first of which stands at `at`.
+// What is left of a store: so many entries, the first of which stands at `at`, a number beside the words: see
+// image::parts.
 #[derive(Clone, Copy, PartialEq, Eq, Debug)]
 pub struct Rest {
     pub at: usize,
