@@ -152,14 +152,11 @@ impl<'a> Held<'a> {
             if !self.same_heads(a, b) {
                 return false;
             }
-            let Some(rest) = a.rest() else {
+            let (Some(next_p), Some(next_q)) = (a.rest(), b.rest()) else {
                 return true;
             };
-            p = rest;
-            let Some(rest) = b.rest() else {
-                return true;
-            };
-            q = rest;
+            p = next_p;
+            q = next_q;
         }
         false
     }
