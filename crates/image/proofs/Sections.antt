@@ -15,55 +15,67 @@ use Rattle.calculus.proofs.Maps.{or_else, get_overlaid}
 use Rattle.calculus.proofs.Validity.{listed_rising}
 use Rattle.image.specs.declared.parts.Parts.{Parts}
 use Rattle.image.specs.Standing.{Stands, EndsAt}
-use Rattle.image.specs.Cuts.{before, onward, beyond, hits, Past, Seeks, PartsAt, CellAt, ValueIn, Found}
-use Rattle.image.proofs.Standing.{headed, stands_left, stands_right, stands_at, stands_as, stands_fits}
+use Rattle.image.specs.Cuts.{before, onward, beyond, hits, Skips, Past, Seeks, PartsAt, CellAt, ValueIn, Found}
+use Rattle.image.proofs.Standing.{headed, stands_left, stands_right, stands_at, stands_as}
 use Rattle.image.proofs.Left.{Left, left_none, left_some, left_next}
 use Rattle.image.proofs.Seeking.{before_onward, hit, miss_get, entries_append, placed_hit, placed_miss, entry_past}
 
--- the loop that passes over the entries of a store: those that are left end where the store does
-pub record Passing (s : List ℕ) (at n p i : ℕ) : Type 0 where
-  pub sees : (x : Store) → ValidStore x → Stands s at (counted cell_words x)
+-- the loop that passes over entries of a store: those that are left end where all of them do
+pub record Skipping (s : List ℕ) (at n p i : ℕ) : Type 0 where
+  pub high : at ≤ length s → p ≤ length s
+  pub sees : (m : Store) (low : ℕ) → Listed ValidCell 255 low m → Stands s at (entries cell_words m) → length m ≡ n
       → Left cell_words ValidCell 255 s n p i
-      (λ y. p + length (entries cell_words y) ≡ at + length (counted cell_words x))
+      (λ y. p + length (entries cell_words y) ≡ at + length (entries cell_words m))
 
-pub passing_start : (s : List ℕ) (at n : ℕ) → n ≡ get_or s at 0 → Passing s at n (at + 1) 0
-passing_start s at n is =
+pub skip_start : (s : List ℕ) (at n : ℕ) → Skipping s at n at 0
+skip_start s at n =
     record {
-      sees = λ x u h.
-          let d = headed h in
-          let e = d.is in
-          record { map = x; low = 0; listed = u; stand = d.more; count = omega arith; holds = omega arith };
+      high = λ h. h;
+      sees = λ m low u h c.
+          record { map = m; low = low; listed = u; stand = h; count = omega arith; holds = refl };
     }
 
-module _ (s : List ℕ) (at n p i : ℕ) (g : Passing s at n p i) where
-  pub passing_done : n ≤ i → at ≤ length s → (r : ℕ) → r ≡ min p (length s)
-      → Past (counted cell_words) ValidStore s at r
-  passing_done l b r is =
+module _ (s : List ℕ) (at n p i : ℕ) (g : Skipping s at n p i) where
+  pub skip_done : n ≤ i → (r : ℕ) → r ≡ min p (length s) → Skips s at n r
+  skip_done l r is =
       record {
         high = omega arith;
-        ends = λ x u h.
-            let e = left_none cell_words ValidCell 255 (g.sees x u h) l in
-            let k = stands_fits h b in
+        ends = λ m low u h c b.
+            let e = left_none cell_words ValidCell 255 (g.sees m low u h c) l in
+            let k = g.high b in
             omega arith;
       }
 
-  pub passing_out : i < n → length s ≤ p → (r : ℕ) → r ≡ min p (length s)
-      → Past (counted cell_words) ValidStore s at r
-  passing_out l o r is =
+  pub skip_out : i < n → length s ≤ p → (r : ℕ) → r ≡ min p (length s) → Skips s at n r
+  skip_out l o r is =
       record {
         high = omega arith;
-        ends = λ x u h.
-            left_some cell_words ValidCell 255 (g.sees x u h) l
+        ends = λ m low u h c b.
+            left_some cell_words ValidCell 255 (g.sees m low u h c) l
             (λ y z t e. let q = t.inside in absurd (omega arith));
       }
 
-  pub passing_next : i < n → (q : ℕ) → EndsAt s (p + 1) q → Passing s at n q (i + 1)
-  passing_next l q ends =
+  pub skip_next : i < n → (q : ℕ) → EndsAt s (p + 1) q → Skipping s at n q (i + 1)
+  skip_next l q ends =
       record {
-        sees = λ x u h.
-            left_next cell_words ValidCell 255 (g.sees x u h) l q (entry_past s (p + 1) q ends)
+        high = λ h. ends.high;
+        sees = λ m low u h c.
+            left_next cell_words ValidCell 255 (g.sees m low u h c) l q (entry_past s (p + 1) q ends)
             (λ y z t e f. let la = length-append (cell_words y.1) (entries cell_words z) in omega arith);
       }
+
+-- a store ends where as many entries do as its count says
+pub store_past : (s : List ℕ) (at n r : ℕ) → n ≡ get_or s at 0 → Skips s (at + 1) n r
+    → Past (counted cell_words) ValidStore s at r
+store_past s at n r is k =
+    record {
+      high = k.high;
+      ends = λ x u h.
+          let d = headed h in
+          let i = d.inside in
+          let e = k.ends x 0 u d.more (sym (is ∙ d.is)) (omega arith) in
+          omega arith;
+    }
 
 -- the parts of a section
 pub cut : (s : List ℕ) (at local expression end : ℕ) → Past (counted cell_words) ValidStore s at local

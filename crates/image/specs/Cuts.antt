@@ -6,7 +6,7 @@ use Rattle.std.proofs.Math.Option.{Option as Maybe, none, some}
 use Rattle.calculus.specs.Maps.{Map, get}
 use Rattle.calculus.specs.Stores.{Cell, Store}
 use Rattle.calculus.specs.States.{Task, view}
-use Rattle.calculus.specs.Images.{entries, counted, cell_words, task_words, Listed, ValidStore, ValidTask}
+use Rattle.calculus.specs.Images.{entries, counted, cell_words, task_words, Listed, ValidCell, ValidStore, ValidTask}
 use Rattle.image.specs.declared.parts.Parts.{Parts}
 use Rattle.image.specs.Standing.{Stands}
 
@@ -27,6 +27,12 @@ module _ {A : Type 0} where
   unfoldable pub hits : ℕ → Map A → Bool
   hits k [] = false
   hits k (e ∷ m) = cond (ltb e.0 k) (hits k m) (eqb e.0 k)
+
+-- r is where n entries of a store that stand at `at` end
+pub record Skips (s : List ℕ) (at n r : ℕ) : Type 0 where
+  pub high : r ≤ length s
+  pub ends : (m : Store) (low : ℕ) → Listed ValidCell 255 low m → Stands s at (entries cell_words m) → length m ≡ n
+      → at ≤ length s → r ≡ at + length (entries cell_words m)
 
 -- the place, as that of an entry that is there or of one that would go there
 abbrev pub place_if : Bool → ℕ → Result ℕ ℕ

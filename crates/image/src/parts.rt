@@ -2,20 +2,18 @@
 // Places are numbers beside the words: a struct of both would be made, and proved inside the words, at each sum.
 ghost use Rattle.std.specs.Prelude.{◌≤◌, ◌<◌, length};
 ghost use Rattle.calculus.specs.Images.{counted, cell_words, task_words, ValidCell, ValidStore, ValidTask};
-ghost use Rattle.image.specs.Cuts.{Past, Seeks, PartsAt, ValueIn, Found};
+ghost use Rattle.image.specs.Cuts.{Skips, Past, Seeks, PartsAt, ValueIn, Found};
 
 use crate::items::{Entry, Section, seek};
 use crate::nodes::past;
 use words::reading::word_at;
 
-// Where the store ends whose count stands at `at`.
+// Where n entries of a store that start at `at` end, never past the words.
 // A walk of its own: it asks of an item no more than where it ends.
-fn past_store(s: &[u16], at: usize) -> usize
-    requires { at ≤ length s.now }
-    ensures { Past (counted cell_words) ValidStore s.now at result }
+pub fn skip(s: &[u16], at: usize, n: usize) -> usize
+    ensures { Skips s.now at n result }
 {
-    let n = word_at(s, at);
-    let mut p = at + 1;
+    let mut p = at;
     for _ in 0..n {
         if s.len() <= p {
             break;
@@ -23,6 +21,14 @@ fn past_store(s: &[u16], at: usize) -> usize
         p = past(s, p + 1);
     }
     p.min(s.len())
+}
+
+// Where the store ends whose count stands at `at`.
+fn past_store(s: &[u16], at: usize) -> usize
+    requires { at ≤ length s.now }
+    ensures { Past (counted cell_words) ValidStore s.now at result }
+{
+    skip(s, at + 1, word_at(s, at) as usize)
 }
 
 // Where the entry of location l stands among n entries of a store that start at `at`, or else where it would go.
