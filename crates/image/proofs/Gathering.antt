@@ -6,6 +6,7 @@ use mathlib.Core.Path.{◌≡◌, refl, sym, ap, ◌∙◌}
 use native.Mathlib.Omega.{arith}
 use lib.ListN.{length, get_or, take, drop, length-append}
 use Rattle.calculus.specs.Maps.{Map}
+use Rattle.calculus.specs.Expressions.{Expression}
 use Rattle.calculus.specs.Words.{words}
 use Rattle.calculus.specs.Formed.{Formed}
 use Rattle.calculus.specs.Images.{counted, cell_words, task_words, Listed, ValidCell, ValidStore, ValidTask}
@@ -14,7 +15,7 @@ use Rattle.words.proofs.Marks.{mark_all_append}
 use Rattle.image.specs.declared.parts.Parts.{Parts}
 use Rattle.image.specs.Standing.{Stands, EndsAt}
 use Rattle.image.specs.Cuts.{Past, PartsAt}
-use Rattle.image.specs.Marks.{Taking, in_map, in_section, MarksOf, MarksAt}
+use Rattle.image.specs.Marks.{Taking, in_map, in_section, MarksOf, MarksAt, SectionMarks}
 use Rattle.image.proofs.Standing.{headed, stands_left, stands_right, stands_at, stands_take}
 use Rattle.image.proofs.Left.{Left, left_none, left_some, left_next}
 use Rattle.image.proofs.Seeking.{cell_ends}
@@ -31,17 +32,17 @@ entry_marks t s at k q m r e g =
           g.marks c v (ap (λ (n : ℕ). take n (drop at s)) l ∙ stands_take h);
     }
 
--- a section
-module _ (t : Taking) (s : List ℕ) (at k : ℕ) (parts : Parts) (p : PartsAt s at parts) (m a b d r : List Bool) where
-  pub section_marks : a ≡ mark_all (t.section k) m → MarksAt (counted cell_words) ValidStore (in_map t.entry) s at a b
+-- a section that is cut at its parts
+module _ (t : Taking) (s : List ℕ) (at k : ℕ) (parts : Parts) (m a b d r : List Bool) where
+  pub parts_marks : a ≡ mark_all (t.section k) m → MarksAt (counted cell_words) ValidStore (in_map t.entry) s at a b
       → MarksAt (counted cell_words) ValidStore (in_map t.entry) s parts.local b d
-      → MarksOf words Formed t.expression (take (parts.end - parts.expression) (drop parts.expression s)) d r
-      → MarksAt task_words ValidTask (in_section t k) s at m r
+      → ((e : Expression) → Formed e → Stands s parts.expression (words e)
+      → parts.end ≡ parts.expression + length (words e) → r ≡ mark_all (t.expression e) d)
+      → SectionMarks (in_section t k) s at parts m r
   unfolding task_words
-  section_marks ga gb gd gr =
+  parts_marks ga gb gd gr =
       record {
-        marks = λ me v h.
-            let c = p.cut me v h in
+        marks = λ me v h c.
             let f = counted cell_words me.snapshot in
             let o = counted cell_words me.local in
             let x = words me.expression in
@@ -55,10 +56,9 @@ module _ (t : Taking) (s : List ℕ) (at k : ℕ) (parts : Parts) (p : PartsAt s
             = stands_at parts.expression (sym c.expression) (stands_right o x h2) in
             let la = length-append f (o ++ x) in
             let lb = length-append o x in
-            let l : parts.end - parts.expression ≡ length x
+            let l : parts.end ≡ parts.expression + length x
             = let e1 = c.local in let e2 = c.expression in let e3 = c.end in omega arith in
-            gr.marks me.expression v.expression.0
-            (ap (λ (n : ℕ). take n (drop parts.expression s)) l ∙ stands_take h3)
+            gr me.expression v.expression.0 h3 l
             ∙ ap (mark_all Z) (gd.marks me.local v.local (stands_left o x h2))
             ∙ ap (λ (n : List Bool). mark_all Z (mark_all Y n)) (gb.marks me.snapshot v.snapshot (stands_left f (o ++ x) h))
             ∙ ap (λ (n : List Bool). mark_all Z (mark_all Y (mark_all X n))) ga
@@ -67,6 +67,19 @@ module _ (t : Taking) (s : List ℕ) (at k : ℕ) (parts : Parts) (p : PartsAt s
             ∙ mark_all_append X (Y ++ Z) (mark_all K m)
             ∙ mark_all_append Y Z (mark_all X (mark_all K m)));
       }
+
+-- and one whose parts were found
+module _ (t : Taking) (s : List ℕ) (at k : ℕ) (parts : Parts) (p : PartsAt s at parts) (m a b d r : List Bool) where
+  pub section_marks : a ≡ mark_all (t.section k) m → MarksAt (counted cell_words) ValidStore (in_map t.entry) s at a b
+      → MarksAt (counted cell_words) ValidStore (in_map t.entry) s parts.local b d
+      → MarksOf words Formed t.expression (take (parts.end - parts.expression) (drop parts.expression s)) d r
+      → MarksAt task_words ValidTask (in_section t k) s at m r
+  section_marks ga gb gd gr =
+      let g = parts_marks t s at k parts m a b d r ga gb gd
+      (λ e f h l.
+      let n : parts.end - parts.expression ≡ length (words e) = omega arith in
+      gr.marks e f (ap (λ (n : ℕ). take n (drop parts.expression s)) n ∙ stands_take h)) in
+      record { marks = λ me v h. g.marks me v h (p.cut me v h) }
 
 -- the items of a map, each written by w
 module _ {A : Type 0} (w : A → List ℕ) (ok : A → Type 0) (top : ℕ) (each : ℕ → A → List ℕ) where

@@ -1,9 +1,10 @@
 // The locations that some store of an image has, as marks.
 ghost use Rattle.calculus.specs.NewNumbers.{taken_locations};
-ghost use Rattle.image.specs.Marks.{locations, ImageMarks};
+ghost use Rattle.image.specs.Marks.{locations, task_keys, SectionMarks, ImageMarks};
 
-use crate::items::Section;
+use crate::items::{Entry, Section};
 use crate::marks::{Taken, mark_items};
+use crate::parts::Parts;
 use words::names::Marks;
 
 impl Taken for [bool; 256] {
@@ -16,6 +17,16 @@ impl Taken for [bool; 256] {
     fn mark_section(&mut self, _number: u16) {}
 
     fn mark_expression(&mut self, _expression: &[u16]) {}
+}
+
+// The marks with those of the locations of a section's two stores, where it is cut at its parts.
+pub fn keys_of_section(s: &[u16], at: usize, parts: Parts, marks: [bool; 256]) -> [bool; 256]
+    ensures { SectionMarks task_keys s.now at parts marks result }
+{
+    let mut all = marks;
+    mark_items::<Entry, _>(s, at, &mut all);
+    mark_items::<Entry, _>(s, parts.local, &mut all);
+    all
 }
 
 // The locations that are in some snapshot or local store. Beside in_use: see there.

@@ -1,9 +1,10 @@
 // The revision numbers in use in an image, as marks and their count.
 ghost use Rattle.calculus.specs.NewNumbers.{taken_revisions};
-ghost use Rattle.image.specs.Marks.{revisions, ImageMarks};
+ghost use Rattle.image.specs.Marks.{revisions, section_revisions, NamesMarked, SectionMarks, ImageMarks};
 
-use crate::items::Section;
+use crate::items::{Entry, Section};
 use crate::marks::{Taken, mark_items};
+use crate::parts::Parts;
 use words::in_use::InUse;
 use words::names::Marks;
 
@@ -21,6 +22,28 @@ impl Taken for InUse {
     fn mark_expression(&mut self, expression: &[u16]) {
         *self = self.with_names(expression);
     }
+}
+
+// The marks with those of the revisions that are named in the expression that stands from `from` to `to`, and the marks
+// alone where the words have no such range.
+pub fn uses_between(s: &[u16], from: usize, to: usize, used: InUse) -> InUse
+    ensures { NamesMarked s.now from to used result }
+{
+    match s.get(from..to) {
+        Some(expression) => used.with_names(expression),
+        None => used,
+    }
+}
+
+// The marks with those of a section that is cut at its parts: its number, and what its stores and its expression name.
+pub fn uses_of_section(s: &[u16], number: u16, at: usize, parts: Parts, used: InUse) -> InUse
+    ensures { SectionMarks (section_revisions number) s.now at parts used.marks result.marks }
+{
+    let mut all = used;
+    all.mark_section(number);
+    mark_items::<Entry, _>(s, at, &mut all);
+    mark_items::<Entry, _>(s, parts.local, &mut all);
+    uses_between(s, parts.expression, parts.end, all)
 }
 
 // The revision numbers that are live or mentioned.
