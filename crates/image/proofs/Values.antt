@@ -89,7 +89,7 @@ value_read s at p h =
     ∙ ap (λ (n : ℕ). leb n 7) (get_or-drop at s 0 0 ∙ ap (λ (i : ℕ). get_or s i 0) (add-zero at))
 
 module _ (s : List ℕ) (at t : ℕ) (ti : t ≡ get_or s at 0) where
-  cell_other : 7 < t → Matched read_cell s at None
+  pub cell_other : 7 < t → Matched read_cell s at None
   cell_other h = record { matches = go (read_closed (length s) (drop at s)) refl }
     where
       go : (o : Maybe (Expression × List ℕ)) → read_closed (length s) (drop at s) ≡ o
@@ -97,7 +97,7 @@ module _ (s : List ℕ) (at t : ℕ) (ti : t ≡ get_or s at 0) where
       go none e = tt
       go (some p) e = rw (value_read s at p e ∙ lt-leb (get_or s at 0) 7 (omega arith)) tt
 
-  cell_value : t ≤ 7 → (w : Option ℕ) → w ≡ walk_of (closed_end_of s at) → Matched read_cell s at w
+  pub cell_value : t ≤ 7 → (w : Option ℕ) → w ≡ walk_of (closed_end_of s at) → Matched read_cell s at w
   cell_value h w q =
       record { matches = go (read_closed (length s) (drop at s)) refl w (closed_matched s at w q).matches }
     where
