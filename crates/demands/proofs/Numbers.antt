@@ -21,6 +21,8 @@ use Rattle.engine.specs.declared.answers.RunError.{RunError}
 use Rattle.engine.specs.declared.answers.RunError.TheVariants as run
 use Rattle.engine.specs.Answers.{stepped_number, loaded_number, ran_number}
 use Rattle.engine.specs.Promises.{StepPromise, LoadPromise, RunPromise}
+use Rattle.typing.specs.declared.CheckError.TheVariants as check
+use Rattle.typing.specs.Checks.{Checked, number_of, CheckPromise}
 
 pub step_numbers : (image : List ℕ) (r : ℕ) (out work : List ℕ) (a : Result Stepped StepError) (out' work' : List ℕ)
     → StepPromise image r out work a out' work' → stepped_number a ≤ 9
@@ -50,6 +52,18 @@ unfolding member
 run_numbers state n picks answers work (Ok m) state' answers' work' h = tt
 run_numbers state n picks answers work (Err run.NotValid) state' answers' work' h = tt
 run_numbers state n picks answers work (Err run.NoRoom) state' answers' work' h = tt
+
+pub check_numbers : (script out work : List ℕ) (a : Checked) (out' work' : List ℕ)
+    → CheckPromise script out work a out' work'
+    → T (member (number_of a) (0 ∷ 9 ∷ 10 ∷ 11 ∷ 12 ∷ 13 ∷ 14 ∷ []))
+unfolding member
+check_numbers script out work (Ok n) out' work' s = tt
+check_numbers script out work (Err check.NoRoom) out' work' s = tt
+check_numbers script out work (Err check.NotFormed) out' work' s = tt
+check_numbers script out work (Err check.HoldsHandle) out' work' s = tt
+check_numbers script out work (Err check.NotClosed) out' work' s = tt
+check_numbers script out work (Err check.NoType) out' work' s = tt
+check_numbers script out work (Err check.LongType) out' work' s = tt
 
 pub report_numbers : (image : List ℕ) (r : Result InUse NotValid) → report_of r ≡ report_answer image
     → T (member (report_of r).number (0 ∷ 8 ∷ []))

@@ -25,6 +25,8 @@ use Rattle.engine.specs.declared.answers.LoadError.{LoadError}
 use Rattle.engine.specs.declared.answers.RunError.{RunError}
 use Rattle.engine.specs.Answers.{stepped_number, stepped_length, loaded_number, loaded_length, ran_number, ran_length}
 use Rattle.engine.specs.Promises.{Answers, StepPromise, LoadPromise, RunPromise}
+use Rattle.typing.specs.declared.CheckError.{CheckError}
+use Rattle.typing.specs.Checks.{Checked, number_of, length_of, CheckPromise}
 
 -- the out buffer, whatever the answer
 kept : (a : Answer) (k m : ℕ) (out work o w : List ℕ) → Answers a k m out work o w → 2 ≤ k → o ≡ out
@@ -51,6 +53,19 @@ pub load_refused : (script out work : List ℕ) (a : Result ℕ LoadError) (out'
     → LoadPromise script out work a out' work' → 2 ≤ loaded_number a → (loaded_length a ≡ 0) × (out' ≡ out)
 load_refused script out work a out' work' s h =
     (load_length a h, kept _ (loaded_number a) (loaded_length a) out work out' work' s h)
+
+check_length : (a : Checked) → 2 ≤ number_of a → length_of a ≡ 0
+check_length (Ok n) h = absurd (omega arith)
+check_length (Err e) h = refl
+
+pub check_refused : (script out work : List ℕ) (a : Checked) (out' work' : List ℕ)
+    → CheckPromise script out work a out' work' → 2 ≤ number_of a → (length_of a ≡ 0) × (out' ≡ out)
+check_refused script out work a out' work' s h = (
+  check_length a h,
+  kept _ (number_of a) (length_of a) out work out' work'
+      (record { answered = s.number; measured = s.size; filled = s.written; cleared = s.cleared })
+      h,
+)
 
 -- what a run that is refused leaves, by the definition
 RunKept : List ℕ → List ℕ → List ℕ → answers.Ran → Type 0

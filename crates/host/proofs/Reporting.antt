@@ -10,7 +10,7 @@ use Rattle.image.specs.declared.report.NotValid.{NotValid}
 use Rattle.image.specs.Reports.{report_of}
 use Rattle.host.specs.Host.{bits, Reports}
 
-bits_clear : (n : ℕ) → bits (replicate n false) ≡ 0
+pub bits_clear : (n : ℕ) → bits (replicate n false) ≡ 0
 unfolding bits
 bits_clear zero = refl
 bits_clear (suc n) = let e = bits_clear n in omega arith
