@@ -10,7 +10,7 @@ use std::ops::Range;
 use words::reading::word_at;
 use words::table::Kind;
 use words::tags::Tag;
-use words::walk::{front_at, types_end};
+use words::walk::{front_of_kind, types_end};
 use write::cursor::{part_of, put_words};
 
 // What goes in: for each free variable x, the words of the value.
@@ -60,7 +60,7 @@ fn is_named(s: &[u16], at: usize, tag: Tag, x: u16) -> bool
 fn piece_at<'a>(s: &'a [u16], at: usize, filling: &Filling<'a>) -> Option<Piece<'a>>
     ensures { PieceAt s.now at filling.now result }
 {
-    let front = front_at(s, Kind::Expression, at)?;
+    let front = front_of_kind(s, Kind::Expression, at)?;
     if is_named(s, at, Tag::Variable, filling.x) {
         return Some(Piece::bare(filling.value, front.next));
     }

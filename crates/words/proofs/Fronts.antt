@@ -1,4 +1,4 @@
--- The front of a node: one law for each way through `front_at`, and what a right front says.
+-- The front of a node: one law for each way through `front_of_kind`, and what a right front says.
 use Prim.Native.Nat.{ℕ, ◌+◌, ◌<◌, ◌≤◌}
 use mathlib.Core.Bool.{Bool, true, false, not}
 use mathlib.Core.List.{List}
@@ -47,7 +47,7 @@ module _ (s : List ℕ) (k : Kind) (at : ℕ) (h : at < length s) (w : ℕ) (v :
     front_other d = rw (lt-ltb at (length s) h, ← v, ← e, d) refl
 
     module _ (d : is_kind n.kind k ≡ true) where
-      by_own : front_of s k at ≡ own_front s n n.limit (at + 1)
+      pub by_own : front_of s k at ≡ own_front s n n.limit (at + 1)
       unfolding front_of
       by_own = rw (lt-ltb at (length s) h, ← v, ← e, d) refl
 

@@ -1,6 +1,7 @@
 -- The laws that the proofs of this crate's functions share, in reading order.
 pub mod Rows
 pub mod Fronts
+pub mod Beginnings
 pub mod TagFronts
 pub mod Ends
 pub mod Nodes

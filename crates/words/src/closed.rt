@@ -6,7 +6,7 @@ ghost use Rattle.words.specs.Scopes.{node_of, closed_end};
 use crate::reading::word_at;
 use crate::table::Kind;
 use crate::tags::Tag;
-use crate::walk::{front_at, type_end};
+use crate::walk::{front_of_kind, type_end};
 
 // What a node asks of the variables in scope, and where the words after its own part start.
 #[derive(Clone, Copy, PartialEq, Eq, Debug)]
@@ -23,7 +23,7 @@ enum Node {
 fn node_at(s: &[u16], at: usize) -> Option<Node>
     ensures { result ≡ node_of s.now at }
 {
-    let front = front_at(s, Kind::Expression, at)?;
+    let front = front_of_kind(s, Kind::Expression, at)?;
     let next = front.next;
     if front.row.types != 0 {
         let body = type_end(s, next)?;

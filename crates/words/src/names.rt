@@ -4,7 +4,7 @@ ghost use Rattle.words.specs.Names.{NextLeaf, HandleTold, leaf_of};
 ghost use Rattle.words.specs.Marks.{NamesMarked, LocationsMarked};
 
 use crate::table::Kind;
-use crate::walk::{front_at, types_end};
+use crate::walk::{front_of_kind, types_end};
 
 // The kinds of leaves, each with its tag. Not Tag: NextLeaf speaks of these four only; the numbers are Tag's.
 #[derive(Clone, Copy, PartialEq, Eq, Debug)]
@@ -24,7 +24,7 @@ pub fn next_leaf(s: &[u16], at: usize, leaf: Leaf) -> Option<usize>
     let tag = leaf as u16;
     let mut p = at;
     loop {
-        let front = front_at(s, Kind::Expression, p)?;
+        let front = front_of_kind(s, Kind::Expression, p)?;
         if s[p] == tag {
             return Some(p);
         }

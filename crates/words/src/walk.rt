@@ -1,7 +1,7 @@
 // Where a type and where an expression ends.
 ghost use Rattle.std.specs.Prelude.{◌≡◌, ◌≤◌, length};
 ghost use Rattle.calculus.specs.Reading.{type_end, end_of, expression_of};
-ghost use Rattle.words.specs.Walks.{walk_of, front_of, types_end, expressions_end, is_there};
+ghost use Rattle.words.specs.Walks.{walk_of, front_of, kind_number, beginning_of, types_end, expressions_end, is_there};
 
 use crate::table::{Kind, Row, row_at};
 
@@ -15,7 +15,7 @@ pub struct Front {
 // The tag and the own word of a node of the kind that stands at `at`. It and `row_at` stand inline in the walks, since
 // a row that is handed back whole makes them some three to seven times slower than one that is read where it stands.
 #[inline(always)]
-pub fn front_at(s: &[u16], kind: Kind, at: usize) -> Option<Front>
+pub fn front_of_kind(s: &[u16], kind: Kind, at: usize) -> Option<Front>
     ensures { result ≡ front_of s.now kind at }
 {
     let tag = *s.get(at)?;
@@ -38,6 +38,47 @@ pub fn front_at(s: &[u16], kind: Kind, at: usize) -> Option<Front>
     }
 }
 
+// What a word begins: its row, if it is a tag, and where what follows it starts.
+#[derive(Clone, Copy, PartialEq, Eq, Debug)]
+pub struct Beginning {
+    pub row: Option<Row>,
+    pub next: usize,
+}
+
+// The number of the kind of a word with that row; a word that is no tag has the number 0.
+fn kind_number(row: Option<Row>) -> u8
+    ensures { result ≡ kind_number row }
+{
+    let Some(tagged) = row else {
+        return 0;
+    };
+    match tagged.kind {
+        Kind::Expression => 1,
+        Kind::Type => 2,
+    }
+}
+
+// What the word at `at` begins, if it is of the kind with that number and its own word is right. The walks know the
+// kind, so they call `front_of_kind`; this is for a caller that has a number, and answers every one.
+pub fn front_at(s: &[u16], kind: u8, at: usize) -> Option<Beginning>
+    ensures { result ≡ beginning_of s.now kind at }
+{
+    let tag = *s.get(at)?;
+    let row = row_at(tag);
+    if kind_number(row) != kind {
+        return None;
+    }
+    let Some(tagged) = row else {
+        let next = at + 1;
+        return Some(Beginning { row: None, next });
+    };
+    let front = front_of_kind(s, tagged.kind, at)?;
+    Some(Beginning {
+        row: Some(front.row),
+        next: front.next,
+    })
+}
+
 // Where `n` types that stand one after the other from `at` on end: a loop that counts the types still to come.
 pub fn types_end(s: &[u16], n: usize, at: usize) -> Option<usize>
     requires { n ≤ 2 }
@@ -47,7 +88,7 @@ pub fn types_end(s: &[u16], n: usize, at: usize) -> Option<usize>
     let mut p = at;
     // A while: what is read may bring more to come, so no range has the turns.
     while 0 < pending {
-        let front = front_at(s, Kind::Type, p)?;
+        let front = front_of_kind(s, Kind::Type, p)?;
         pending = pending - 1 + front.row.types;
         p = front.next;
     }
@@ -69,7 +110,7 @@ fn expressions_end(s: &[u16], n: usize, at: usize) -> Option<usize>
     if n == 0 {
         return Some(at);
     }
-    let front = front_at(s, Kind::Expression, at)?;
+    let front = front_of_kind(s, Kind::Expression, at)?;
     let body = types_end(s, front.row.types, front.next)?;
     let end = expressions_end(s, front.row.children, body)?;
     expressions_end(s, n - 1, end)

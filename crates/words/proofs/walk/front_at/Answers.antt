@@ -1,44 +1,35 @@
 -- `walk::front_at` meets its contract: one law for each way through it.
-use mathlib.Core.Path.{◌∙◌}
-use Rattle.words.proofs.Fronts.{front_out, front_untagged, front_other, front_bare, front_short, front_fine, front_over}
-use Rattle.words.proofs.Fronts.{kinds_differ, kinds_agree}
+use mathlib.Core.Path.{sym, ap, ◌∙◌}
+use Rattle.words.specs.Walks.{front_beginning}
+use Rattle.words.proofs.Beginnings.{begun_out, begun_other, begun_untagged, begun_tagged}
 use Rattle.words.proofs.walk.front_at.Goals as goal
 
 pub returns-in_err-tag : goal.returns-in_err-tag
-returns-in_err-tag c = c.from_residual.ensures ∙ front_out _ _ _ c.in_err-tag.ensures.lookup.3
+returns-in_err-tag c = c.from_residual.ensures ∙ begun_out _ _ _ c.in_err-tag.ensures.lookup.3
 
-pub returns-in_err-row : goal.returns-in_err-row
-returns-in_err-row c =
+pub returns-then-kind_number-kind : goal.returns-then-kind_number-kind
+returns-then-kind_number-kind c =
     let t = c.in_ok-tag.ensures.lookup in
-    c.from_residual-in_err-row.ensures ∙ front_untagged _ _ _ t.3.0 _ (t.3.1 0) c.in_err-row.ensures
-
-pub returns-then-ne : goal.returns-then-ne
-returns-then-ne c =
-    let t = c.in_ok-tag.ensures.lookup in
-    front_other _ _ _ t.3.0 _ (t.3.1 0) _ c.in_ok-row.ensures (kinds_differ _ _ c.if-ne.ensures)
+    begun_other _ _ _ t.3.0 _ (t.3.1 0) _ c.row_at-row.ensures
+    (λ q. c.if-kind_number-kind.true (c.kind_number.ensures ∙ q))
 
 pub returns-in_default : goal.returns-in_default
 returns-in_default c =
     let t = c.in_ok-tag.ensures.lookup in
-    front_bare _ _ _ t.3.0 _ (t.3.1 0) _ c.in_ok-row.ensures (kinds_agree _ _ c.if-ne.ensures) c.in_default.is
+    begun_untagged _ _ _ t.3.0 _ (t.3.1 0) _ c.row_at-row.ensures
+    (sym c.kind_number.ensures ∙ c.if-kind_number-kind.false) c.in_default.is
 
-pub returns-in_err-own : goal.returns-in_err-own
-returns-in_err-own c =
+pub returns-in_err-front : goal.returns-in_err-front
+returns-in_err-front c =
     let t = c.in_ok-tag.ensures.lookup in
-    c.from_residual-in_err-own.ensures
-    ∙ front_short _ _ _ t.3.0 _ (t.3.1 0) _ c.in_ok-row.ensures (kinds_agree _ _ c.if-ne.ensures) _ c.in-Some.is
-    c.in_err-own.ensures.lookup.3
+    c.from_residual-in_err-front.ensures
+    ∙ ap front_beginning c.in_err-front.ensures
+    ∙ begun_tagged _ _ _ t.3.0 _ (t.3.1 0) _ c.row_at-row.ensures
+    (sym c.kind_number.ensures ∙ c.if-kind_number-kind.false) _ c.in-Some.is
 
-pub returns-then-own-limit : goal.returns-then-own-limit
-returns-then-own-limit c =
+pub returns : goal.returns
+returns c =
     let t = c.in_ok-tag.ensures.lookup in
-    let o = c.in_ok-own.ensures.lookup in
-    front_fine _ _ _ t.3.0 _ (t.3.1 0) _ c.in_ok-row.ensures (kinds_agree _ _ c.if-ne.ensures) _ c.in-Some.is
-    o.3.0 _ (o.3.1 0) c.if-own-limit.true
-
-pub returns-else-own-limit : goal.returns-else-own-limit
-returns-else-own-limit c =
-    let t = c.in_ok-tag.ensures.lookup in
-    let o = c.in_ok-own.ensures.lookup in
-    front_over _ _ _ t.3.0 _ (t.3.1 0) _ c.in_ok-row.ensures (kinds_agree _ _ c.if-ne.ensures) _ c.in-Some.is
-    o.3.0 _ (o.3.1 0) c.if-own-limit.false
+    ap front_beginning c.in_ok-front.ensures
+    ∙ begun_tagged _ _ _ t.3.0 _ (t.3.1 0) _ c.row_at-row.ensures
+    (sym c.kind_number.ensures ∙ c.if-kind_number-kind.false) _ c.in-Some.is
