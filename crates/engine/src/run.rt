@@ -6,7 +6,7 @@ use crate::answers::{RunError, StepError, Stepped, length_after, stepped_number}
 use image::valid::is_valid;
 use rules::advance::advance;
 use rules::site::Moved;
-use words::buffers::clear;
+use words::buffers::{clear, copy};
 
 // One pick, on the image in the first n words of the state buffer: the two are apart as C lends them.
 fn pick(state: &mut [u16], n: usize, r: u16, work: &mut [u16]) -> Result<Stepped, StepError>
@@ -18,7 +18,7 @@ fn pick(state: &mut [u16], n: usize, r: u16, work: &mut [u16]) -> Result<Stepped
             if work.len() < m {
                 return Err(StepError::NoRoom);
             }
-            state[..m].copy_from_slice(&work[..m]);
+            copy(&work[..m], &mut state[..m]);
             Ok(Stepped::Moved(m))
         }
         Moved::Emptied => {

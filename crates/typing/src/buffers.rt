@@ -21,10 +21,10 @@ pub fn copy(part: &[u16], out: &mut [u16], to: usize) -> usize
 {
     let end = to + part.len();
     if end <= out.len() {
-        out[to..end].copy_from_slice(part);
+        words::buffers::copy(part, &mut out[to..end]);
     } else if to < out.len() {
         let room = out.len() - to;
-        out[to..].copy_from_slice(&part[..room]);
+        words::buffers::copy(&part[..room], &mut out[to..]);
     }
     end
 }

@@ -3,6 +3,7 @@ ghost use Rattle.std.specs.Prelude.{◌≡◌, ◌≤◌, [], ◌∷◌, length}
 ghost use Rattle.write.specs.Cursor.{Wrote, part};
 
 use std::ops::Range;
+use words::buffers::copy;
 
 // Writes the word w at the cursor. The buffer and the place are two parameters: as fields of one struct, each function
 // that writes would also have to promise that the struct keeps the caller's reference (its ghost_name).
@@ -21,10 +22,10 @@ pub fn put_words(out: &mut [u16], to: usize, words: &[u16]) -> usize
     }
     let room = out.len() - to;
     if room < words.len() {
-        out[to..].copy_from_slice(&words[..room]);
+        copy(&words[..room], &mut out[to..]);
         return out.len() + 1;
     }
-    out[to..to + words.len()].copy_from_slice(words);
+    copy(words, &mut out[to..to + words.len()]);
     to + words.len()
 }
 

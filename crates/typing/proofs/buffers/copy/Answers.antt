@@ -5,12 +5,12 @@ use Rattle.typing.proofs.buffers.copy.Goals as goal
 
 pub returns-then-end-out : goal.returns-then-end-out
 returns-then-end-out c =
-    (refl, copied_whole _ _ _ _ _ c.copy_from_slice.ensures.after (omega arith) c.if-end-out.true)
+    (refl, copied_whole _ _ _ _ _ c.copy.ensures (omega arith) c.if-end-out.true)
 
 pub returns-then-to-out : goal.returns-then-to-out
 returns-then-to-out c = (
   refl,
-  copied_cut _ _ _ _ _ refl c.copy_from_slice-then-to-out.ensures.after (omega arith) c.if-end-out.false,
+  copied_cut _ _ _ _ _ refl c.copy-then-to-out.ensures (omega arith) c.if-end-out.false,
 )
 
 pub returns-else-to-out : goal.returns-else-to-out
