@@ -23,6 +23,7 @@ pub struct Typed {
 pub const SCOPE: usize = 2048;
 
 // No child: unit, false, true, a number, a variable. A location and a revision have no type in a script.
+#[inline(always)]
 pub fn leaf(node: Node, work: &mut [u16]) -> Result<Typed, CheckError>
     ensures { Leafs node.entry.script.words.now node.entry.at work.old result work.new }
 {
@@ -52,6 +53,7 @@ pub fn leaf(node: Node, work: &mut [u16]) -> Result<Typed, CheckError>
 }
 
 // Where the first child starts. A lambda, if an annotation stands in it, notes where, and keeps what was noted before.
+#[inline(always)]
 pub fn enter(node: Node, work: &mut [u16]) -> Option<u16>
     ensures { Enters node.entry.script.words.now node.entry.at work.old result work.new }
 {
@@ -68,6 +70,7 @@ pub fn enter(node: Node, work: &mut [u16]) -> Option<u16>
 }
 
 // After the first child: where its type is held becomes the node's link, and a lambda gives the scope back.
+#[inline(always)]
 pub fn leave(node: Node, work: &mut [u16], first: u16)
     ensures { work.new ≡ ended node.entry.script.words.now node.entry.at first work.old }
 {
@@ -80,6 +83,7 @@ pub fn leave(node: Node, work: &mut [u16], first: u16)
 }
 
 // One child: lambda, ref, read, fork, join.
+#[inline(always)]
 pub fn rule_one(node: Node, links: &[u16], child: Typed) -> Result<Typed, CheckError>
     ensures { RuleOne node.entry.script.words.now links.now node.entry.at child.held child.end result }
 {
@@ -146,6 +150,7 @@ fn ask_of(node: Node, first: u16, head: Head) -> Option<Ask>
 }
 
 // Two children: apply, assign, and the three on numbers. The first child's type is the node's link.
+#[inline(never)]
 pub fn rule_two(node: Node, links: &[u16], second: Typed) -> Result<Typed, CheckError>
     ensures { RuleTwo node.entry.script.words.now links.now node.entry.at second.held second.end result }
 {
@@ -167,6 +172,7 @@ pub fn rule_two(node: Node, links: &[u16], second: Typed) -> Result<Typed, Check
 }
 
 // Three children: if.
+#[inline(never)]
 pub fn rule_three(
     node: Node,
     links: &[u16],
