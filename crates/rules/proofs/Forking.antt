@@ -37,7 +37,7 @@ use Rattle.image.proofs.Around.{hits_past}
 use Rattle.place.specs.Search.{suffix}
 use Rattle.words.proofs.Ends.{words_long}
 use Rattle.write.specs.Cursor.{part, Wrote}
-use Rattle.write.proofs.Cursors.{part_stands, wrote_as, then}
+use Rattle.write.proofs.Cursors.{part_stands, wrote_as, wrote_size, then}
 use Rattle.rules.specs.declared.site.Site.{Site}
 use Rattle.std.specs.Prelude.{Option, Some, None, Result, Ok, Err}
 use Rattle.rules.specs.declared.site.Moved.TheVariants.{To}
@@ -60,7 +60,13 @@ pub child_done : (s : List ℕ) (site : Site) (child : Child) (o₀ o₁ o₂ o�
     → WroteChild s site child o₀ to r o₄
 unfolding child_words
 child_done s site child o₀ o₁ o₂ o₃ o₄ to w x y r w₁ w₂ w₃ w₄ =
+    let e₁ = wrote_size w₁ in
+    let e₃ = wrote_size w₃ in
+    let e₄ = wrote_size w₄ in
+    let n = w₂.size in
     record {
+      high = omega arith;
+      size = e₄.0 ∙ e₃.0 ∙ n ∙ e₁.0;
       wrote = λ me a. then w₁
           (then (w₂.wrote me.snapshot me.local a.valid.snapshot a.valid.local a.snapshot a.local) (then w₃ w₄));
     }

@@ -59,6 +59,26 @@ redex_is R t h e =
     let k = tagged R h in
     subst (λ t. Is t R) (tag_word_injective k.tag t (sym k.there ∙ e)) k.is
 
+-- from 15 on there is arithmetic only
+pub record Calculating (s : List ℕ) (p : ℕ) (R : Redex) : Type 0 where
+  pub operation : Arithmetic
+  pub is : Is (two_tag (arithmetic operation)) R
+  pub there : get_or s p 0 ≡ tag_word (two_tag (arithmetic operation))
+
+pub calculating_is : {s : List ℕ} {p : ℕ} (R : Redex) → Stands s p (words (expression_at R)) → 15 ≤ get_or s p 0
+    → Calculating s p R
+calculating_is {s} {p} R h l = go R (tagged R h).is (tagged R h).there
+  where
+    go : {t : Tag} (R : Redex) → Is t R → get_or s p 0 ≡ tag_word t → Calculating s p R
+    go R (is_applying f v) e = absurd (omega arith)
+    go R (is_choosing t b c) e = absurd (omega arith)
+    go R (is_making v) e = absurd (omega arith)
+    go R (is_reading k) e = absurd (omega arith)
+    go R (is_assigning k v) e = absurd (omega arith)
+    go R (is_forking x) e = absurd (omega arith)
+    go R (is_joining r) e = absurd (omega arith)
+    go R (is_calculating o m n) e = record { operation = o; is = is_calculating o m n; there = e }
+
 -- what is plugged in a formed expression is formed
 pub formed_in : (E : Context) (e : Expression) → Formed (plug E e) → Formed e
 unfolding Formed

@@ -24,7 +24,7 @@ use Rattle.image.proofs.Standing.{headed, stands_at}
 use Rattle.image.specs.Cuts.{CellAt, Found}
 use Rattle.write.specs.Cursor.{part, Wrote}
 use Rattle.write.specs.Entry.{WrotePut}
-use Rattle.write.proofs.Cursors.{part_stands, wrote_as, then}
+use Rattle.write.proofs.Cursors.{part_stands, wrote_as, wrote_size, then}
 use Rattle.rules.specs.declared.site.Site.{Site}
 use Rattle.std.specs.Prelude.{Option, Some, None, Ok, Err}
 use Rattle.std.specs.Option.{is_some}
@@ -49,7 +49,16 @@ pub stored_done : (s : List ℕ) (site : Site) (l a b : ℕ) (new o o₁ o₂ o�
     → Wrote (part s site.expression site.place) o₂ x y o₃ → Wrote new o₃ y z o₄ → Wrote (part s b (length s)) o₄ z r o₅
     → WroteStored s site l a b new o r o₅
 stored_done s site l a b new o o₁ o₂ o₃ o₄ o₅ w x y z r w₁ w₂ w₃ w₄ w₅ =
-    record { wrote = λ m c v h i p. then (then w₁ (then (w₂.wrote m c v h i p) w₃)) (then w₄ w₅) }
+    let e₁ = wrote_size w₁ in
+    let e₃ = wrote_size w₃ in
+    let e₄ = wrote_size w₄ in
+    let e₅ = wrote_size w₅ in
+    let n = w₂.size in
+    record {
+      high = omega arith;
+      size = e₅.0 ∙ e₄.0 ∙ e₃.0 ∙ n ∙ e₁.0;
+      wrote = λ m c v h i p. then (then w₁ (then (w₂.wrote m c v h i p) w₃)) (then w₄ w₅);
+    }
 
 regroup : (f m g i j : List ℕ) → (f ++ (m ++ g)) ++ (i ++ j) ≡ f ++ (m ++ (g ++ (i ++ j)))
 regroup f m g i j = simp append_assoc

@@ -1,5 +1,5 @@
 -- What fork writes: one section more, put in where its number goes.
-use Rattle.std.specs.Prelude.{ℕ, ◌+◌, ◌≤◌, List, ◌∷◌, ◌++◌, length, get_or}
+use Rattle.std.specs.Prelude.{ℕ, ◌+◌, ◌≤◌, ◌≡◌, List, ◌∷◌, ◌++◌, length, get_or}
 use Rattle.calculus.specs.States.{Task, view}
 use Rattle.calculus.specs.Images.{counted, cell_words, ValidTask}
 use Rattle.image.specs.Standing.{Stands}
@@ -26,7 +26,10 @@ unfoldable pub child_words : List ℕ → Child → Task → List ℕ
 child_words s child me =
     child.revision ∷ (counted cell_words (view me) ++ (0 ∷ part s child.from child.end))
 
+-- the child's section was written; of any words, the buffer keeps its length and the cursor its bound
 pub record WroteChild (s : List ℕ) (site : Site) (child : Child) (o : List ℕ) (to r : ℕ) (o' : List ℕ) : Type 0 where
+  pub high : r ≤ length o + 1
+  pub size : length o' ≡ length o
   pub wrote : (me : Task) → StoresAt s site me → Wrote (child_words s child me) o to r o'
 
 -- the words from a to b, with the child's section if it goes among them

@@ -16,8 +16,10 @@ pub record PutPlace (s : List ℕ) (site : Site) (b : ℕ) : Type 0 where
   pub end : b ≤ length s
 
 -- the words of s with the cell c, which stands from a to b, at l in the local store m that stands there, and with new
--- for those from the redex up to b
+-- for those from the redex up to b; of any words, the buffer keeps its length and the cursor its bound
 pub record WroteStored (s : List ℕ) (site : Site) (l a b : ℕ) (new o : List ℕ) (r : ℕ) (o' : List ℕ) : Type 0 where
+  pub high : r ≤ length o + 1
+  pub size : length o' ≡ length o
   pub wrote : (m : Store) (c : Cell) → ValidStore m → Stands s site.local (counted cell_words m)
       → site.expression ≡ site.local + length (counted cell_words m) → part s a b ≡ cell_words c
       → Wrote
