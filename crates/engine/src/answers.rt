@@ -2,7 +2,9 @@
 ghost use Rattle.std.specs.Prelude.{◌≡◌};
 ghost use Rattle.engine.specs.Answers as answers;
 
-use rules::site::{Reason, Refusal};
+// Why a step is stuck is part of StepError, so it has its name here too.
+pub use rules::site::Reason;
+use rules::site::Refusal;
 use words::script::ScriptError;
 
 // A step taken, with the length of the image written: the next state's, or the empty state's, which is written too.

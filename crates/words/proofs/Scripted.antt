@@ -45,7 +45,7 @@ module _ (ws : List ℕ) where
   too_long h = rw (lt-leb (length ws) 2048 h) refl
 
   module _ (h : length ws ≤ 2048) where
-    few : script_of ws ≡ script_if (expression_of ws)
+    pub few : script_of ws ≡ script_if (expression_of ws)
     unfolding script_of
     few = rw (le-leb (length ws) 2048 h) refl
 
