@@ -44,7 +44,7 @@ pub fn infer(script: Script, at: u16, left: u16, work: &mut [u16]) -> Result<Typ
 }
 
 // The same for a node with two or three children, of which the first has been checked and ends at `from`.
-// A function of its own, since so the frame that each level needs on the stack is smaller.
+// Inline, so that each level takes one frame of the stack and not two.
 #[cycle(infer_others)]
 #[inline(always)]
 fn others(node: Node, left: u16, work: &mut [u16], from: u16) -> Result<Typed, CheckError>

@@ -1,4 +1,6 @@
 // The rules of the check, on types that are held as positions.
+// Hints on inlining: what runs before the last child is checked stands inline in `infer`, where a Node needs no place in
+// memory then, and the rules of two and three children do not, since what they need would lie on the stack at each level.
 ghost use Rattle.std.specs.Prelude.{◌≡◌};
 ghost use Rattle.typing.specs.Rulings.{Leafs, Enters, ended, RuleOne, Asks, RuleTwo, RuleThree};
 
