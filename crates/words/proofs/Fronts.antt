@@ -1,13 +1,14 @@
 -- The front of a node: one law for each way through `front_of_kind`, and what a right front says.
 use Prim.Native.Nat.{ℕ, ◌+◌, ◌<◌, ◌≤◌}
-use mathlib.Core.Bool.{Bool, true, false, not}
+use mathlib.Core.Bool.{Bool, true, false, beq}
 use mathlib.Core.List.{List}
 use mathlib.Core.Path.{subst as along, ◌≡◌, refl, sym, ap, ◌∙◌}
 use native.Mathlib.Omega.{arith}
+use native.Mathlib.Decide.{dec_lt}
 use denote.Enum.Bare.{sameb}
-use lib.Dec.{ltb}
+use lib.Dec.{ltb, leb}
 use lib.ListN.{length, get_or}
-use borrow.Author.Tests.{lt-ltb, le-ltb, ltb-true}
+use borrow.Author.Tests.{lt-ltb, le-ltb, ltb-true, lt-leb, le-leb}
 use Rattle.std.specs.Prelude.{Option, Some, None}
 use Rattle.calculus.specs.Numbers.{choose}
 use Rattle.words.specs.contracts.table.Kind.{the_type}
@@ -17,20 +18,25 @@ use Rattle.words.specs.declared.table.Row.{Row}
 use Rattle.words.specs.declared.walk.Front.{Front}
 use Rattle.words.specs.Rows.{row_of}
 use Rattle.words.specs.Walks.{front_of, front, own_front, row_front, is_kind}
-use Rattle.words.proofs.Rows.{Small, small}
+use Rattle.words.proofs.Rows.{low_kind, high_kind, Small, small}
 
--- the code's test whether two kinds differ
-pub kinds_differ : (a b : Kind) → true ≡ not (sameb the_type a b) → is_kind a b ≡ false
-kinds_differ Expression Expression e = cc
-kinds_differ Expression TypeKind e = refl
-kinds_differ TypeKind Expression e = refl
-kinds_differ TypeKind TypeKind e = cc
+-- The code's test of a kind against a tag, before it has the row: the tags of types are those from 32 on. It tells
+-- whether the row is of the kind.
+module _ (k : Kind) (w : ℕ) (b : Bool) (i : b ≡ sameb the_type k TypeKind) where
+  pub kind_told : (n : Row) → Some n ≡ row_of w → is_kind n.kind k ≡ beq b (leb 32 w)
+  kind_told n e = rw i (go (dec_lt w 32))
+    where
+      low : (k : Kind) → is_kind Expression k ≡ beq (sameb the_type k TypeKind) false
+      low Expression = refl
+      low TypeKind = refl
 
-pub kinds_agree : (a b : Kind) → false ≡ not (sameb the_type a b) → is_kind a b ≡ true
-kinds_agree Expression Expression e = refl
-kinds_agree Expression TypeKind e = cc
-kinds_agree TypeKind Expression e = cc
-kinds_agree TypeKind TypeKind e = refl
+      high : (k : Kind) → is_kind TypeKind k ≡ beq (sameb the_type k TypeKind) true
+      high Expression = refl
+      high TypeKind = refl
+
+      go : Dec (w < 32) → is_kind n.kind k ≡ beq (sameb the_type k TypeKind) (leb 32 w)
+      go (yes h) = rw (low_kind w n h e, lt-leb 32 w h) (low k)
+      go (no h) = rw (high_kind w n (omega arith) e, le-leb 32 w (omega arith)) (high k)
 
 pub front_out : (s : List ℕ) (k : Kind) (at : ℕ) → length s ≤ at → None ≡ front_of s k at
 unfolding front_of
@@ -67,6 +73,14 @@ module _ (s : List ℕ) (k : Kind) (at : ℕ) (h : at < length s) (w : ℕ) (v :
 
           pub front_over : b ≤ x → None ≡ front_of s k at
           front_over j = rw (limited, lt-ltb (at + 1) (length s) l, ← i, le-ltb x b j) refl
+
+  -- no front of the kind, if no row that the word can have is of the kind
+  pub front_elsewhere : ((n : Row) → Some n ≡ row_of w → is_kind n.kind k ≡ false) → None ≡ front_of s k at
+  front_elsewhere f = go (row_of w) refl
+    where
+      go : (o : Option Row) → row_of w ≡ o → None ≡ front_of s k at
+      go None e = front_untagged (sym e)
+      go (Some n) e = front_other n (sym e) (f n (sym e))
 
 -- where a right front stands, and its row
 pub record Fronted (s : List ℕ) (k : Kind) (at : ℕ) (n : Row) (next : ℕ) : Type 0 where

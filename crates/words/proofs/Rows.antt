@@ -2,7 +2,7 @@
 use Prim.Native.Nat.{ℕ, zero, suc, ◌-◌, ◌<◌, ◌≤◌}
 use mathlib.Core.List.{List, [], ◌∷◌, map}
 use mathlib.Core.Option.{Option as Maybe, none, some}
-use mathlib.Core.Path.{subst as along, ◌≡◌, refl, sym, ◌∙◌}
+use mathlib.Core.Path.{subst as along, ◌≡◌, refl, sym, ap, ◌∙◌}
 use native.Mathlib.Omega.{arith}
 use native.Mathlib.Decide.{dec_lt}
 use borrow.Author.Tests.{le-leb, lt-leb, le-ltb, lt-ltb}
@@ -10,6 +10,7 @@ use lib.Dec.{ltb}
 use Rattle.calculus.specs.Numbers.{choose}
 use lib.ListN.{length, get_or, get_elem?}
 use Rattle.std.specs.Prelude.{Option, Some, None}
+use Rattle.std.proofs.lemmas.List.{get_or_default}
 use Rattle.calculus.specs.Tags.{Tag, constant_tag, leaf_tag, lambda_tag, one_tag, two_tag, if_tag, tags}
 use Rattle.calculus.specs.Tags.{TypeTag, basic_tag, reference_tag, function_tag, type_tags}
 use Rattle.calculus.specs.Reading.{tag_of, type_tag_of}
@@ -68,7 +69,7 @@ unfolding row_of
 type_row w d l h =
     rw (no_tag w (omega arith), le-leb 32 w l) (type_tag_in type_tags (w - 32) (omega arith) d)
 
--- the code's two tables, written out
+-- the code's two tables, written out; the code is proved by these
 unfoldable pub expressions : List Row
 expressions =
     row Expression None 0 0 ∷ row Expression None 0 0 ∷ row Expression None 0 0 ∷ row Expression (Some 65536) 0 0
@@ -105,6 +106,39 @@ table_row w h = go (dec_lt w 18) (dec_lt w 32)
     go (yes l) d = rw (lt-ltb w 18 l) (expression_row w _ l)
     go (no l) (yes m) = rw (le-ltb w 18 (omega arith), lt-ltb w 32 m) (no_row_between w (omega arith) m)
     go (no l) (no m) = rw (le-ltb w 18 (omega arith), le-ltb w 32 (omega arith)) (type_row w _ (omega arith) h)
+
+-- where the table has the row of a word: in which of the two, or in neither
+pub in_expressions : (w : ℕ) (d : Row) → w < 18 → Some (get_or expressions w d) ≡ table w
+unfolding table expressions
+in_expressions w d h = rw (lt-ltb w 18 h) (ap Some (get_or_default expressions w d _ h))
+
+pub in_types : (w : ℕ) (d : Row) → 32 ≤ w → w < 38 → Some (get_or types (w - 32) d) ≡ table w
+unfolding table types
+in_types w d l h =
+    rw (le-ltb w 18 (omega arith), le-ltb w 32 l) (ap Some (get_or_default types (w - 32) d _ (omega arith)))
+
+pub in_neither : (w : ℕ) → 18 ≤ w → w < 32 → None ≡ table w
+unfolding table
+in_neither w l h = rw (le-ltb w 18 l, lt-ltb w 32 h) refl
+
+-- a word below 32 has no row of a type, a word from there on none of an expression
+pub low_kind : (w : ℕ) (n : Row) → w < 32 → Some n ≡ row_of w → n.kind ≡ Expression
+unfolding row_of
+low_kind w n h e = go (tag_of w) (e ∙ ap (λ (u : Maybe TypeTag). row_if (tag_of w) (type_row_if u)) (no_type_tag w h))
+  where
+    go : (o : Maybe Tag) → Some n ≡ row_if o None → n.kind ≡ Expression
+    go none e = cc
+    go (some t) e = let q : tag_row t ≡ n = cc in along (λ (m : Row). m.kind ≡ Expression) q (tag_kind t)
+
+pub high_kind : (w : ℕ) (n : Row) → 32 ≤ w → Some n ≡ row_of w → n.kind ≡ TypeKind
+unfolding row_of
+high_kind w n h e =
+    go (type_tag_of w)
+    (e ∙ ap (λ (o : Maybe Tag). row_if o (type_row_if (type_tag_of w))) (no_tag w (omega arith)))
+  where
+    go : (u : Maybe TypeTag) → Some n ≡ type_row_if u → n.kind ≡ TypeKind
+    go none e = cc
+    go (some t) e = let q : type_tag_row t ≡ n = cc in along (λ (m : Row). m.kind ≡ TypeKind) q (type_tag_kind t)
 
 -- a tag is of one kind
 pub tag_type_tag : (w : ℕ) (t : Tag) → tag_of w ≡ some t → type_tag_of w ≡ none

@@ -19,10 +19,12 @@ pub fn front_of_kind(s: &[u16], kind: Kind, at: usize) -> Option<Front>
     ensures { result ≡ front_of s.now kind at }
 {
     let tag = *s.get(at)?;
-    let row = row_at(tag)?;
-    if row.kind != kind {
+    // The tags of types are those from 32 on. A walk knows its kind, so with this test, before the row, it has one table
+    // to look in and not two. With a test of the row's kind in its place a load takes a third more instructions.
+    if (kind == Kind::Type) != (32 <= tag) {
         return None;
     }
+    let row = row_at(tag)?;
     let next = at + 1;
     let Some(limit) = row.limit else {
         return Some(Front { row, next });
