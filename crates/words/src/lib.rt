@@ -1,5 +1,5 @@
-// Flat functions on words: reading one, clearing a buffer of them, the tags and their table, where a node ends,
-// closedness, names, the revision numbers in use, scripts, and the signed meaning.
+// Flat functions on words: reading one, clearing a buffer of them and copying into one, the tags and their table,
+// where a node ends, closedness, names, the revision numbers in use, scripts, and the signed meaning.
 #![tactic(auto)]
 
 pub mod buffers;
