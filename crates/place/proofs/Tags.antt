@@ -6,7 +6,7 @@ use mathlib.Core.Logic.{◌⊎◌, inl, inr}
 use native.Mathlib.Omega.{arith}
 use mathlib.Core.Option.{Option, none, some}
 use lib.Dec.{T, eqb, leb, ltb}
-use borrow.Author.Tests.{leb-true, le-leb, lt-leb}
+use borrow.Author.Tests.{leb-true, le-leb, lt-leb, lt-ltb, ne_eqb}
 use Rattle.calculus.specs.Options.{◌▸◌}
 use Rattle.calculus.specs.Expressions.{unit, bool, number, variable, location, revision, ref, read, fork, join}
 use Rattle.calculus.specs.Expressions.{Arithmetic, add, subtract, less, apply, assign, arithmetic}
@@ -134,15 +134,12 @@ asks_told (if a b c) t h = refl
 pub asks_by_lem : (g t : ℕ) {r : Bool} → r ≡ asks_by g t → Asks g t r
 asks_by_lem g t q = record { answer = λ e h f. q ∙ ap (λ x. asks_by x t) h ∙ asks_told e t f }
 
--- the three arithmetic tags tell the same
-module _ (g : Tag) (o : (g ≡ Add) ⊎ ((g ≡ Subtract) ⊎ (g ≡ Less))) where
-  pub asks_arithmetic : (t : ℕ) {r : Bool} → r ≡ asks_by 15 t → Asks (word_of g) t r
-  asks_arithmetic t q = asks_by_lem (word_of g) t (q ∙ same o)
-    where
-      same : (g ≡ Add) ⊎ ((g ≡ Subtract) ⊎ (g ≡ Less)) → asks_by 15 t ≡ asks_by (word_of g) t
-      same (inl e) = rw e refl
-      same (inr (inl e)) = rw e refl
-      same (inr (inr e)) = rw e refl
+-- any tag past 14 asks for a number first
+pub asks_arithmetic : (g t : ℕ) → 14 < g → {r : Bool} → r ≡ eqb t 3 → Asks g t r
+asks_arithmetic g t l q = asks_by_lem g t (q ∙ sym past)
+  where
+    past : asks_by g t ≡ eqb t 3
+    past = rw (ne_eqb g 8 (λ e. omega arith), ne_eqb g 12 (λ e. omega arith), lt-ltb 14 g l) refl
 
 -- is the node a redex?
 abbrev pub redex_by : ℕ → ℕ → ℕ → Bool
@@ -229,11 +226,29 @@ redex_told (if a b c) t u h k = told_truth a h ∙ by_truth (as_truth a) (λ t. 
 pub redex_by_lem : (g t u : ℕ) {r : Bool} → r ≡ redex_by g t u → RedexBy g t u r
 redex_by_lem g t u q = record { answer = λ e h f k. q ∙ ap (λ x. redex_by x t u) h ∙ redex_told e t u f k }
 
-pub redex_arithmetic : (g : Tag) → (g ≡ Add) ⊎ ((g ≡ Subtract) ⊎ (g ≡ Less)) → (t u : ℕ) {r : Bool}
-    → r ≡ redex_by 15 t u → RedexBy (word_of g) t u r
-redex_arithmetic g o t u q = redex_by_lem (word_of g) t u (q ∙ same o)
+-- any tag past 14 is of a redex where both children are numbers
+pub redex_arithmetic : (g t u : ℕ) → 14 < g → {r : Bool} → r ≡ (eqb t 3 && eqb u 3) → RedexBy g t u r
+redex_arithmetic g t u l q = redex_by_lem g t u (q ∙ sym past)
   where
-    same : (g ≡ Add) ⊎ ((g ≡ Subtract) ⊎ (g ≡ Less)) → redex_by 15 t u ≡ redex_by (word_of g) t u
-    same (inl e) = rw e refl
-    same (inr (inl e)) = rw e refl
-    same (inr (inr e)) = rw e refl
+    unlike : (n : ℕ) → n ≤ 14 → eqb g n ≡ false
+    unlike n h = ne_eqb g n (λ e. omega arith)
+
+    past : redex_by g t u ≡ (eqb t 3 && eqb u 3)
+    past =
+        rw (
+          unlike 8 (omega arith),
+          unlike 9 (omega arith),
+          unlike 10 (omega arith),
+          unlike 11 (omega arith),
+          unlike 12 (omega arith),
+          unlike 13 (omega arith),
+          unlike 14 (omega arith),
+          lt-ltb 14 g l,
+        )
+        refl
+
+-- the three arithmetic tags are those past 14
+pub arithmetic_past : (g : Tag) → (g ≡ Add) ⊎ ((g ≡ Subtract) ⊎ (g ≡ Less)) → 14 < word_of g
+arithmetic_past g (inl e) = rw e (omega arith)
+arithmetic_past g (inr (inl e)) = rw e (omega arith)
+arithmetic_past g (inr (inr e)) = rw e (omega arith)
