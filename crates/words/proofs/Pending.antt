@@ -53,6 +53,10 @@ pub record Pending (s : List ℕ) (n at pending p : ℕ) : Type 0 where
   pub same : types_end s n at ≡ types_end s pending p
   pub few : pending ≤ p + 2
 
+-- the loop begins with all of at most two types pending
+pub pending_start : (s : List ℕ) (n at : ℕ) → n ≤ 2 → Pending s n at n at
+pending_start s n at h = record { same = refl; few = omega arith }
+
 module _ (s : List ℕ) (n at pending p : ℕ) (i : Pending s n at pending p) where
   pub pending_done : pending ≤ 0 → Some p ≡ walk_of (types_end s n at)
   unfolding types_end
