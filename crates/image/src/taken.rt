@@ -20,6 +20,7 @@ impl Taken for [bool; 256] {
 }
 
 // The marks with those of the locations of a section's two stores, where it is cut at its parts.
+// No crate here calls it: it stays, since it is a public function that promises this.
 pub fn keys_of_section(s: &[u16], at: usize, parts: Parts, marks: [bool; 256]) -> [bool; 256]
     ensures { SectionMarks task_keys s.now at parts marks result }
 {

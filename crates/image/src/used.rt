@@ -36,6 +36,7 @@ pub fn uses_between(s: &[u16], from: usize, to: usize, used: InUse) -> InUse
 }
 
 // The marks with those of a section that is cut at its parts: its number, and what its stores and its expression name.
+// No crate here calls it: it stays, since it is a public function that promises this.
 pub fn uses_of_section(s: &[u16], number: u16, at: usize, parts: Parts, used: InUse) -> InUse
     ensures { SectionMarks (section_revisions number) s.now at parts used.marks result.marks }
 {
