@@ -25,7 +25,6 @@ use Rattle.engine.specs.declared.answers.LoadError.{LoadError}
 use Rattle.engine.specs.declared.answers.RunError.{RunError}
 use Rattle.engine.specs.Answers.{stepped_number, stepped_length, loaded_number, loaded_length, ran_number, ran_length}
 use Rattle.engine.specs.Promises.{Answers, StepPromise, LoadPromise, RunPromise}
-use Rattle.typing.specs.declared.CheckError.{CheckError}
 use Rattle.typing.specs.Checks.{Checked, number_of, length_of, CheckPromise}
 
 -- the out buffer, whatever the answer

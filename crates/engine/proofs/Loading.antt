@@ -21,7 +21,7 @@ use Rattle.words.specs.declared.script.ScriptError.{ScriptError}
 use Rattle.words.specs.declared.script.ScriptError.TheVariants as script
 use Rattle.words.specs.Buffers.{Cleared}
 use Rattle.words.specs.Scripts.{script_number, ScriptTold}
-use Rattle.words.proofs.Scripted.{words_of, few}
+use Rattle.words.proofs.Scripted.{words_of}
 use Rattle.write.specs.Cursor.{Wrote}
 use Rattle.std.specs.Prelude.{Result, Ok, Err, IsErrAnd}
 use Rattle.engine.specs.declared.answers.LoadError.{LoadError}
@@ -122,10 +122,6 @@ is_script_lem ws e h = long (leb (length ws) 2048) refl h
 
 pub script_is_short : (ws : List ℕ) → ScriptTold ws (Ok tt) → length ws ≤ 2048
 script_is_short ws (e, h) = (is_script_lem ws e h).short
-
--- what a script's words come to, where they are few enough
-pub script_short : (ws : List ℕ) → length ws ≤ 2048 → script_of ws ≡ script_if (expression_of ws)
-script_short ws h = few ws h
 
 pub loaded_no_work : (ws out work work' : List ℕ) → Cleared work 0 work' → (length work' ≡ 8192 → ⊥)
     → LoadPromise ws out work (Err NoRoom) out work'

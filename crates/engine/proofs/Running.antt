@@ -127,10 +127,6 @@ try_done state₀ n₀ picks answers₀ state answers work n i c h =
       ready = c.ready;
     }
 
--- the part of the state buffer that is tested has n words
-pub lent_part : (state : List ℕ) (n : ℕ) → length state ≡ 8192 → n ≤ 8192 → n ≡ length (take n state)
-lent_part state n s h = sym (length-take-le n state (omega arith))
-
 -- a run's promise from what its answer is
 promised : (state : List ℕ) (n : ℕ) (picks answers work : List ℕ) (x : Ran) (a : Result ℕ RunError)
     (state' answers' work' : List ℕ) → run_answer state n picks answers work ≡ x → ran_number a ≡ x.number

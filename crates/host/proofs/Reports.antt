@@ -2,7 +2,7 @@
 use Prim.Native.Nat.{ℕ, ◌≤◌}
 use mathlib.Core.List.{List, [], ◌∷◌}
 use mathlib.Core.Option.{Option, none, some}
-use mathlib.Core.Path.{◌≡◌, refl, ap, ◌∙◌}
+use mathlib.Core.Path.{◌≡◌, ◌∙◌}
 use native.Mathlib.Omega.{arith}
 use lib.Dec.{T}
 use Rattle.calculus.specs.Formed.{member}
@@ -10,7 +10,7 @@ use Rattle.calculus.specs.States.{State}
 use Rattle.calculus.specs.Images.{state_of}
 use Rattle.calculus.specs.Answers.{report_from, report_answer}
 use Rattle.host.specs.declared.PulleyrushReport.{PulleyrushReport}
-use Rattle.host.specs.Host.{bits, Reports}
+use Rattle.host.specs.Host.{Reports}
 use Rattle.host.proofs.Reporting.{bits_clear}
 
 number_from : (s : Option State) (number : ℕ) → number ≡ (report_from s).number → T (member number (0 ∷ 8 ∷ []))

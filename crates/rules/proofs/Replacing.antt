@@ -26,7 +26,7 @@ use Rattle.image.specs.Standing.{Stands, EndsAt}
 use Rattle.image.proofs.Standing.{headed, stands_left, stands_right, stands_at}
 use Rattle.image.specs.Cuts.{CellAt, Found}
 use Rattle.write.specs.Cursor.{part, Wrote}
-use Rattle.write.proofs.Cursors.{part_stands, wrote_as, then}
+use Rattle.write.proofs.Cursors.{part_stands, wrote_as}
 use Rattle.rules.specs.declared.site.Site.{Site}
 use Rattle.std.specs.Prelude.{Option, Some, None, Ok, Err}
 use Rattle.rules.specs.declared.site.Moved.TheVariants.{To}
@@ -248,9 +248,3 @@ calculate_done g f s site operation m n mi ni o r o' wr h =
           replaced g f s site (site.place + 5) o r o' wr st me E (calculating k a b) w (calculated k a b) (omega arith)
               (writes_as (ap₂ (λ a b. words (calculated k a b)) ia ib) h),
         )
-
--- three writes in a row
-pub then3 : {a b d o : List ℕ} {i j k r : ℕ} {o₁ o₂ o₃ : List ℕ} → Wrote a o i j o₁ → Wrote b o₁ j k o₂
-    → Wrote d o₂ k r o₃
-    → Wrote (a ++ (b ++ d)) o i r o₃
-then3 u v w = then u (then v w)
