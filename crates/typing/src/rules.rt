@@ -1,6 +1,6 @@
 // The rules of the check, on types that are held as positions.
-// Hints on inlining: what runs before the last child is checked stands inline in `infer`, where a Node needs no place in
-// memory then, and the rules of two and three children do not, since what they need would lie on the stack at each level.
+// Hints on inlining: leaf, enter, leave and rule_one stand inline in `infer`, since out of line each is handed a Node of
+// its own, which lies on the stack at every level; rule_two and rule_three do not, since what they need would lie there.
 ghost use Rattle.std.specs.Prelude.{◌≡◌};
 ghost use Rattle.typing.specs.Rulings.{Leafs, Enters, ended, RuleOne, Asks, RuleTwo, RuleThree};
 
