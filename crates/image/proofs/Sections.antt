@@ -16,9 +16,22 @@ use Rattle.calculus.proofs.Validity.{listed_rising}
 use Rattle.image.specs.declared.parts.Parts.{Parts}
 use Rattle.image.specs.Standing.{Stands, EndsAt}
 use Rattle.image.specs.Cuts.{before, onward, beyond, hits, Skips, Past, Seeks, PartsAt, CellAt, ValueIn, Found}
-use Rattle.image.proofs.Standing.{headed, stands_left, stands_right, stands_at, stands_as}
+use Rattle.image.proofs.Standing.{headed, stands_left, stands_right, stands_at, stands_as, stands_fits}
 use Rattle.image.proofs.Left.{Left, left_none, left_some, left_next}
 use Rattle.image.proofs.Seeking.{before_onward, hit, miss_get, entries_append, placed_hit, placed_miss, entry_past}
+
+-- entries of a store that are left to a loop over them and end at e: the next one starts within the words, and those after
+-- it end at e too
+module _ {s : List ℕ} {n p i e : ℕ}
+    (f : Left cell_words ValidCell 255 s n p i (λ y. p + length (entries cell_words y) ≡ e)) (l : i < n) where
+  left_inside : p < length s
+  left_inside = left_some cell_words ValidCell 255 f l (λ y z t h. t.inside)
+
+  left_passed : (q : ℕ) → EndsAt s (p + 1) q
+      → Left cell_words ValidCell 255 s n q (i + 1) (λ y. q + length (entries cell_words y) ≡ e)
+  left_passed q ends =
+      left_next cell_words ValidCell 255 f l q (entry_past s (p + 1) q ends)
+      (λ y z t h g. let la = length-append (cell_words y.1) (entries cell_words z) in omega arith)
 
 -- the loop that passes over entries of a store: those that are left end where all of them do
 pub record Skipping (s : List ℕ) (at n p i : ℕ) : Type 0 where
@@ -51,18 +64,61 @@ module _ (s : List ℕ) (at n p i : ℕ) (g : Skipping s at n p i) where
       record {
         high = omega arith;
         ends = λ m low u h c b.
-            left_some cell_words ValidCell 255 (g.sees m low u h c) l
-            (λ y z t e. let q = t.inside in absurd (omega arith));
+            let q = left_inside (g.sees m low u h c) l in
+            absurd (omega arith);
       }
 
   pub skip_next : i < n → (q : ℕ) → EndsAt s (p + 1) q → Skipping s at n q (i + 1)
   skip_next l q ends =
       record {
         high = λ h. ends.high;
-        sees = λ m low u h c.
-            left_next cell_words ValidCell 255 (g.sees m low u h c) l q (entry_past s (p + 1) q ends)
-            (λ y z t e f. let la = length-append (cell_words y.1) (entries cell_words z) in omega arith);
+        sees = λ m low u h c. left_passed (g.sees m low u h c) l q ends;
       }
+
+-- the same loop, begun behind the count of a store: the entries that are left end where the store does
+pub record Passing (s : List ℕ) (at n p i : ℕ) : Type 0 where
+  pub sees : (x : Store) → ValidStore x → Stands s at (counted cell_words x)
+      → Left cell_words ValidCell 255 s n p i
+      (λ y. p + length (entries cell_words y) ≡ at + length (counted cell_words x))
+
+-- the loop of `skip` keeps it, as `past_store` begins that loop
+pub passing : (s : List ℕ) (at n p i : ℕ) → n ≡ get_or s at 0 → Skipping s (at + 1) n p i → Passing s at n p i
+passing s at n p i is g =
+    record {
+      sees = λ x u h.
+          let d = headed h in
+          let k = g.sees x 0 u d.more (sym (is ∙ d.is)) in
+          let e = k.holds in
+          record { map = k.map; low = k.low; listed = k.listed; stand = k.stand; count = k.count; holds = omega arith };
+    }
+
+pub passing_start : (s : List ℕ) (at n : ℕ) → n ≡ get_or s at 0 → Passing s at n (at + 1) 0
+passing_start s at n is = passing s at n (at + 1) 0 is (skip_start s (at + 1) n)
+
+module _ (s : List ℕ) (at n p i : ℕ) (g : Passing s at n p i) where
+  pub passing_done : n ≤ i → at ≤ length s → (r : ℕ) → r ≡ min p (length s)
+      → Past (counted cell_words) ValidStore s at r
+  passing_done l b r is =
+      record {
+        high = omega arith;
+        ends = λ x u h.
+            let e = left_none cell_words ValidCell 255 (g.sees x u h) l in
+            let k = stands_fits h b in
+            omega arith;
+      }
+
+  pub passing_out : i < n → length s ≤ p → (r : ℕ) → r ≡ min p (length s)
+      → Past (counted cell_words) ValidStore s at r
+  passing_out l o r is =
+      record {
+        high = omega arith;
+        ends = λ x u h.
+            let q = left_inside (g.sees x u h) l in
+            absurd (omega arith);
+      }
+
+  pub passing_next : i < n → (q : ℕ) → EndsAt s (p + 1) q → Passing s at n q (i + 1)
+  passing_next l q ends = record { sees = λ x u h. left_passed (g.sees x u h) l q ends }
 
 -- a store ends where as many entries do as its count says
 pub store_past : (s : List ℕ) (at n r : ℕ) → n ≡ get_or s at 0 → Skips s (at + 1) n r

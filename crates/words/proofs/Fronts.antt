@@ -1,6 +1,6 @@
 -- The front of a node: one law for each way through `front_of_kind`, and what a right front says.
 use Prim.Native.Nat.{ℕ, ◌+◌, ◌<◌, ◌≤◌}
-use mathlib.Core.Bool.{Bool, true, false, beq}
+use mathlib.Core.Bool.{Bool, true, false, not, beq}
 use mathlib.Core.List.{List}
 use mathlib.Core.Path.{subst as along, ◌≡◌, refl, sym, ap, ◌∙◌}
 use native.Mathlib.Omega.{arith}
@@ -19,6 +19,19 @@ use Rattle.words.specs.declared.walk.Front.{Front}
 use Rattle.words.specs.Rows.{row_of}
 use Rattle.words.specs.Walks.{front_of, front, own_front, row_front, is_kind}
 use Rattle.words.proofs.Rows.{low_kind, high_kind, Small, small}
+
+-- the answers of a test whether two kinds differ
+pub kinds_differ : (a b : Kind) → true ≡ not (sameb the_type a b) → is_kind a b ≡ false
+kinds_differ Expression Expression e = cc
+kinds_differ Expression TypeKind e = refl
+kinds_differ TypeKind Expression e = refl
+kinds_differ TypeKind TypeKind e = cc
+
+pub kinds_agree : (a b : Kind) → false ≡ not (sameb the_type a b) → is_kind a b ≡ true
+kinds_agree Expression Expression e = refl
+kinds_agree Expression TypeKind e = cc
+kinds_agree TypeKind Expression e = cc
+kinds_agree TypeKind TypeKind e = refl
 
 -- The code's test of a kind against a tag, before it has the row: the tags of types are those from 32 on. It tells
 -- whether the row is of the kind.
